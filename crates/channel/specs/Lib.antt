@@ -1,0 +1,5 @@
+pub mod Phases
+pub mod Means
+pub mod Calls
+pub mod Timing
+pub mod Device

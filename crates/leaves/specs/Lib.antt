@@ -1,0 +1,4 @@
+pub mod Alone
+pub mod Timed
+pub mod EveryKth
+pub mod Work
