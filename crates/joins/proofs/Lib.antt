@@ -1,0 +1,4 @@
+pub mod Leaves
+pub mod Order
+pub mod Pace
+pub mod Whole

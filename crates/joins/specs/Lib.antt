@@ -1,0 +1,5 @@
+pub mod Rules
+pub mod Turns
+pub mod Together
+pub mod Bounds
+pub mod Join

@@ -1,0 +1,3 @@
+// Joins: devices made of two devices.
+pub mod rules;
+pub mod join;
