@@ -3,3 +3,4 @@ pub mod Turns
 pub mod Together
 pub mod Bounds
 pub mod Join
+pub mod Jobs

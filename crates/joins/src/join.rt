@@ -57,8 +57,8 @@ pub struct Join<R, A, B> {
     rule: R,
     phase: Phase,
     denier: Option<u32>,
-    first: A,
-    second: B,
+    pub(crate) first: A,
+    pub(crate) second: B,
 }
 
 pub type Distributor<A, B> = Join<Parallel, A, B>;

@@ -1,3 +1,4 @@
 // Joins: devices made of two devices.
 pub mod rules;
 pub mod join;
+pub mod worker;

@@ -1,12 +1,10 @@
 -- The work leaf, call by call and to the last field.
 use mathlib.Core.Path.{_≡_}
-use mathlib.Core.Bool.{Bool, cond}
+use mathlib.Core.Bool.{cond}
 use Prim.Native.Nat.{ℕ, _+_, _-_}
-use lib.Dec.{ltb, leb, eqb}
+use lib.Dec.{ltb, eqb}
 use Rattle.std.specs.declared.option.Option.{Option}
 use Rattle.std.specs.declared.option.Option.the-variants.{Some, None}
-use Rattle.std.specs.declared.result.Result.{Result}
-use Rattle.std.specs.declared.result.Result.the-variants.{Ok, Err}
 use Rattle.channel.specs.declared.phase.Phase.{Phase}
 use Rattle.channel.specs.declared.phase.Phase.the-variants.{Run, Request, Stopped, Exit, Denied, Continue}
 use Rattle.channel.specs.declared.device.Call.{Call}
@@ -15,8 +13,6 @@ use Rattle.channel.specs.Means.{Means}
 use Rattle.channel.specs.Timing.{Timing}
 use Rattle.leaves.specs.Alone.{alone, ToldAt}
 use Rattle.leaves.specs.declared.work.Work.{Work}
-use Rattle.leaves.specs.declared.work.JobRefusal.{JobRefusal}
-use Rattle.leaves.specs.declared.work.JobRefusal.the-variants.{TooMany}
 
 abbrev pub work-means : Work → Means
 work-means w = alone (w .tag) (w .phase) (w .denier)
@@ -88,17 +84,3 @@ after Restart w = made (w .tag) (w .patience)
 
 abbrev pub work-makes : Call → Work → Work → Type 0
 work-makes c w v = v ≡ after c w
-
--- refusals by number
-abbrev pub job-number : JobRefusal → ℕ
-job-number TooMany = 23
-
--- whether n more jobs fit
-abbrev pub room : Work → ℕ → Bool
-room w n = leb (w .jobs + n) 65535
-
-abbrev pub job-answer : Work → ℕ → Result Unit JobRefusal
-job-answer w n = cond (room w n) (Ok tt) (Err TooMany)
-
-abbrev pub after-job : Work → ℕ → Work
-after-job w n = cond (room w n) (counts w (w .jobs + n) (w .done)) w

@@ -2,3 +2,4 @@
 pub mod delays;
 pub mod timed;
 pub mod work;
+pub mod worker;

@@ -1,10 +1,13 @@
 // A leaf that works off jobs, and denies a stop where too many wait.
 ghost use mathlib.Core.Path.{_≡_};
 ghost use Rattle.channel.specs.Device.{InOrder};
-ghost use Rattle.leaves.specs.Work.{work-means, work-timing, WorkOrder, work-makes, made, job-number, job-answer, after-job};
+ghost use Rattle.leaves.specs.Work.{work-means, work-timing, WorkOrder, work-makes, made};
+ghost use Rattle.leaves.specs.Jobs.{add-answer, after-add};
+ghost use lib.Dec.{eqb};
 use channel::device::QDevice;
 use channel::device::Refusal;
 use channel::phase::Phase;
+use crate::worker::JobRefusal;
 
 #[derive(Clone, Copy)]
 pub struct Work {
@@ -17,23 +20,6 @@ pub struct Work {
     done: u8,
     phase: Phase,
     denier: Option<u32>,
-}
-
-// Why a job call is refused. A refused one changes nothing.
-#[derive(Clone, Copy, PartialEq, Eq, Debug)]
-pub enum JobRefusal {
-    // more than 65,535 jobs would wait
-    TooMany,
-}
-
-impl JobRefusal {
-    pub fn number(self) -> u8
-        ensures { λ r. ⌜ r ≡ job-number self ⌝ }
-    {
-        match self {
-            JobRefusal::TooMany => 23,
-        }
-    }
 }
 
 impl Work {
@@ -54,8 +40,10 @@ impl Work {
 
     // Adds n jobs, or refuses where more than 65,535 would wait.
     pub fn job(&mut self, n: u16) -> Result<(), JobRefusal>
-        ensures answer { λ r. ⌜ r ≡ job-answer (now (self .entry)) n ⌝ }
-        ensures exact { λ _. ⌜ now (self .exit) ≡ after-job (now (self .entry)) n ⌝ }
+        ensures answer { λ r. ⌜ r ≡ add-answer (now (self .entry)) n ⌝ }
+        ensures exact { λ _. ⌜ now (self .exit) ≡ after-add (now (self .entry)) n ⌝ }
+        ensures order { λ _. ⌜ work-means (now (self .exit)) ≡ work-means (now (self .entry)) ⌝ }
+        ensures pace { λ _. ⌜ work-timing (now (self .exit)) ≡ work-timing (now (self .entry)) ⌝ }
         ensures kept { λ _. ⌜ (InOrder WorkOrder work-means work-timing (now (self .entry)) → InOrder WorkOrder work-means work-timing (now (self .exit))) ⌝ }
     {
         match self.jobs.checked_add(n) {
@@ -65,6 +53,12 @@ impl Work {
             }
             None => Err(JobRefusal::TooMany),
         }
+    }
+
+    pub(crate) fn is_tagged(&self, tag: u32) -> bool
+        ensures { λ r. ⌜ r ≡ eqb (now (self .entry) .tag) tag ⌝ }
+    {
+        self.tag == tag
     }
 
     // How many jobs wait.
