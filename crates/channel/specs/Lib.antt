@@ -1,4 +1,5 @@
 pub mod Phases
+pub mod PPhases
 pub mod Means
 pub mod Calls
 pub mod Timing

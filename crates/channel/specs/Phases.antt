@@ -36,7 +36,7 @@ allowed Denied q = is Continue q
 allowed Continue q = is Run q
 
 -- 1 where a signal's two levels differ
-abbrev turns : Bool → Bool → ℕ
+abbrev pub turns : Bool → Bool → ℕ
 turns true true = 0
 turns true false = 1
 turns false true = 1

@@ -4,7 +4,7 @@ ghost use Prim.Native.Nat.{ℕ};
 ghost use Rattle.channel.specs.Phases.{levels-of};
 ghost use Rattle.channel.specs.Means.{Means};
 ghost use Rattle.channel.specs.Calls.{refusal-number, lower-answer, raise-answer, Lowered, Raised, Stepped, Reset};
-ghost use Rattle.channel.specs.Timing.{Timing, Ticked};
+ghost use Rattle.channel.specs.Timing.{Timing, Charged, Ticked};
 ghost use Rattle.channel.specs.Device.{InOrder};
 ghost use Rattle.channel.specs.declared.device.Call.{Call};
 ghost use Rattle.channel.specs.declared.device.Call.the-variants.{Lower, Raise, Step, Restart};
@@ -69,7 +69,7 @@ pub trait QDevice {
         ensures answer { λ r. ⌜ r ≡ lower-answer (means (now (self .entry)) .phase) ⌝ }
         ensures exact { λ _. ⌜ makes Lower (now (self .entry)) (now (self .exit)) ⌝ }
         ensures order { λ _. ⌜ (InOrder ordered means timing (now (self .entry)) → Lowered (means (now (self .entry))) (means (now (self .exit)))) ⌝ }
-        ensures pace { λ _. ⌜ timing (now (self .exit)) .bound ≡ timing (now (self .entry)) .bound ⌝ }
+        ensures pace { λ r. ⌜ Charged r (timing (now (self .entry))) (timing (now (self .exit))) ⌝ }
         ensures kept { λ _. ⌜ (InOrder ordered means timing (now (self .entry)) → InOrder ordered means timing (now (self .exit))) ⌝ };
 
     // Wakes a stopped device, or takes a denied request back.
@@ -77,7 +77,7 @@ pub trait QDevice {
         ensures answer { λ r. ⌜ r ≡ raise-answer (means (now (self .entry)) .phase) ⌝ }
         ensures exact { λ _. ⌜ makes Raise (now (self .entry)) (now (self .exit)) ⌝ }
         ensures order { λ _. ⌜ (InOrder ordered means timing (now (self .entry)) → Raised (means (now (self .entry))) (means (now (self .exit)))) ⌝ }
-        ensures pace { λ _. ⌜ timing (now (self .exit)) .bound ≡ timing (now (self .entry)) .bound ⌝ }
+        ensures pace { λ r. ⌜ Charged r (timing (now (self .entry))) (timing (now (self .exit))) ⌝ }
         ensures kept { λ _. ⌜ (InOrder ordered means timing (now (self .entry)) → InOrder ordered means timing (now (self .exit))) ⌝ };
 
     // Lets one step pass.

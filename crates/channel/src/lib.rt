@@ -1,3 +1,4 @@
-// The Q-Channel: its phases and levels, and the device at its lower end.
+// The two channels, their phases and levels, and the device at the lower end of a Q-Channel.
 pub mod phase;
+pub mod pphase;
 pub mod device;
