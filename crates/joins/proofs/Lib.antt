@@ -2,3 +2,4 @@ pub mod Leaves
 pub mod Order
 pub mod Pace
 pub mod Whole
+pub mod Shows

@@ -250,7 +250,7 @@ join-stepped p d a x b y h = record {
 each-at : (p : Phase) (Q : Phase → Type 0) (m : Means) → ((q : Phase) → q ≡ p → Q q) → Each (λ q. q ≡ p) (m .leaves) → Each Q (m .leaves)
 each-at p Q m f e = each-map (λ q. q ≡ p) Q f (m .leaves) e
 
-run-each : (m : Means) → Sound m → m .phase ≡ Run → Each (λ p. p ≡ Run) (m .leaves)
+pub run-each : (m : Means) → Sound m → m .phase ≡ Run → Each (λ p. p ≡ Run) (m .leaves)
 run-each m s e = sound-at Run m e s
 
 waking-each : (m : Means) → Sound m → Waking (m .phase) → Each Waking (m .leaves)

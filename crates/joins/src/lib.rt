@@ -2,3 +2,4 @@
 pub mod rules;
 pub mod join;
 pub mod worker;
+pub mod stack;
