@@ -45,7 +45,7 @@ first-may Sequencer Exit n x y = while-may Exit n x y Run
 first-may Sequencer Denied n x y = inr refl
 first-may Sequencer Continue n x y = inr refl
 
-denied-may : (y : Phase) → May Request true y (raise-denied y)
+pub denied-may : (y : Phase) → May Request true y (raise-denied y)
 denied-may Run = inl refl
 denied-may Request = inl refl
 denied-may Stopped = inl refl
@@ -226,6 +226,14 @@ closed-quiet Exit n = n tt
 closed-quiet Denied n = tt
 closed-quiet Continue n = tt
 
+pub turned-tags : (w : Drive) (m mid n : Means) → Turned w m mid n → tags (n .leaves) ≡ tags (m .leaves)
+turned-tags w m mid n t = t .stepped .same-tags ∙ by w (t .drove)
+  where
+    by : (w : Drive) → Drove w m mid → tags (mid .leaves) ≡ tags (m .leaves)
+    by Nothing e = ap (λ q. tags (q .leaves)) e
+    by Lower e = grind arith
+    by Raise e = grind arith
+
 -- a step of a join is a step of a device
 pub join-stepped : (p : Phase) (d : Option ℕ) (a x b y : Means) → Pair p d a x b y
     → Stepped (joined p d a b) (joined (phase-after p d x y) (denier-after p d x y) x y)
@@ -239,13 +247,6 @@ join-stepped p d a x b y h = record {
   where
     joins : {X : Type 0} {l m k n : List X} → l ≡ m → k ≡ n → l ++ k ≡ m ++ n
     joins e f = rw (e, f)
-    turned-tags : (w : Drive) (m mid n : Means) → Turned w m mid n → tags (n .leaves) ≡ tags (m .leaves)
-    turned-tags w m mid n t = t .stepped .same-tags ∙ by w (t .drove)
-      where
-        by : (w : Drive) → Drove w m mid → tags (mid .leaves) ≡ tags (m .leaves)
-        by Nothing e = ap (λ q. tags (q .leaves)) e
-        by Lower e = grind arith
-        by Raise e = grind arith
 
 each-at : (p : Phase) (Q : Phase → Type 0) (m : Means) → ((q : Phase) → q ≡ p → Q q) → Each (λ q. q ≡ p) (m .leaves) → Each Q (m .leaves)
 each-at p Q m f e = each-map (λ q. q ≡ p) Q f (m .leaves) e
@@ -253,7 +254,7 @@ each-at p Q m f e = each-map (λ q. q ≡ p) Q f (m .leaves) e
 pub run-each : (m : Means) → Sound m → m .phase ≡ Run → Each (λ p. p ≡ Run) (m .leaves)
 run-each m s e = sound-at Run m e s
 
-waking-each : (m : Means) → Sound m → Waking (m .phase) → Each Waking (m .leaves)
+pub waking-each : (m : Means) → Sound m → Waking (m .phase) → Each Waking (m .leaves)
 waking-each m s (inl e) = each-at Stopped Waking m (λ q i. inl i) (sound-at Stopped m e s .0)
 waking-each m s (inr (inl e)) = sound-at Exit m e s .0
 waking-each m s (inr (inr e)) = each-at Run Waking m (λ q i. inr (inr i)) (run-each m s e)

@@ -73,11 +73,11 @@ pub record Went {S : Type 0} (o : S → Type 0) (m : S → Means) (t : S → Tim
 
 module _ {S : Type 0} (o : S → Type 0) (m : S → Means) (t : S → Timing) (w : Drive) (x y : S) where
 
-  went-turned : InOrder o m t x → (h : Went o m t w x y) → Turned w (m x) (m (h .mid)) (m y)
+  pub went-turned : InOrder o m t x → (h : Went o m t w x y) → Turned w (m x) (m (h .mid)) (m y)
   went-turned i h = record {
       sound = i .sound; drove = h .drove; sound-mid = h .mid-kept .sound; stepped = h .stepped; sound-after = h .kept .sound }
 
-  went-paced : InOrder o m t x → (h : Went o m t w x y) → Paced w (m x .phase) (m y .phase) (t x) (t (h .mid)) (t y)
+  pub went-paced : InOrder o m t x → (h : Went o m t w x y) → Paced w (m x .phase) (m y .phase) (t x) (t (h .mid)) (t y)
   went-paced i h =
       let p = turned-phase w (m x) (m (h .mid)) (m y) (went-turned i h) in
       record {

@@ -66,7 +66,7 @@ pub type Distributor<A, B> = Join<Parallel, A, B>;
 pub type Sequencer<A, B> = Join<Serial, A, B>;
 
 // Gives a device its drive.
-fn make_drive<D: QDevice>(device: &mut D, drive: Drive)
+pub fn make_drive<D: QDevice>(device: &mut D, drive: Drive)
     ensures exact { λ _. ⌜ DriveMakes (D·QDevice .makes) drive (now (device .entry)) (now (device .exit)) ⌝ }
     ensures order { λ _. ⌜ (InOrder (D·QDevice .ordered) (D·QDevice .means) (D·QDevice .timing) (now (device .entry)) → Drove drive (D·QDevice .means (now (device .entry))) (D·QDevice .means (now (device .exit)))) ⌝ }
     ensures bound { λ _. ⌜ D·QDevice .timing (now (device .exit)) .bound ≡ D·QDevice .timing (now (device .entry)) .bound ⌝ }

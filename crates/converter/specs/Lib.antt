@@ -1,0 +1,4 @@
+pub mod Rules
+pub mod Over
+pub mod Converter
+pub mod Stack
