@@ -1,12 +1,13 @@
 -- The other calls on the cells: a drive of the top, a reset of all lines, jobs for a leaf; and the wiring, which stays.
 use mathlib.Core.Path.{_≡_, refl, sym, _∙_, ap, subst}
-use mathlib.Core.Bool.{Bool, true, false, cond}
+use mathlib.Core.Bool.{Bool, true, false, cond, not, _||_}
 use mathlib.Core.List.{List, _++_}
 use mathlib.Core.Logic.{_⊎_, inl, inr}
 use native.Mathlib.Omega.{arith}
 use Prim.Native.Nat.{ℕ, zero, suc, _+_, _≤_, _<_}
 use lib.ListN.{length}
-use Rattle.std.proofs.shelf.Tests.{cases-eq, both-ways}
+use lib.Dec.{eqb}
+use Rattle.std.proofs.shelf.Tests.{cases-eq, both-ways, or-cases, or-left, or-right, or-from, and-parts, and-from, eqb-true}
 use Rattle.std.proofs.shelf.Ways.{tells}
 use Rattle.std.specs.declared.option.Option.{Option}
 use Rattle.std.specs.declared.option.Option.the-variants.{None}
@@ -24,10 +25,10 @@ use Rattle.joins.specs.Together.{Together, InSequence}
 use Rattle.cells.specs.declared.cell.Body.{Body}
 use Rattle.cells.specs.declared.cell.Body.the-variants as body
 use Rattle.cells.specs.declared.cell.Cell.{Cell}
-use Rattle.cells.specs.Bodies.{driven-body, answered-body, reset-body, joins-line, joins-twice}
+use Rattle.cells.specs.Bodies.{driven-body, answered-body, reset-body, joins-line, joins-twice, shares}
 use Rattle.cells.specs.Nests.{Nest, empty, timed-leaf, work-leaf, join, nest-means, nest-timing, NestOrder, drive-nest, reset-nest}
-use Rattle.cells.specs.Flat.{body-at, put, first-of, second-of, is-join, is-blank, drive-from, answer-to, stepped, reset-to, nest-of, nest, Wired}
-use Rattle.cells.proofs.Passes.{put-same, put-other, length-put, joins-first, joins-second, joins-driven, twice-driven, blank-driven, Touched, touched-wired, Passed, passed, Answered, answered}
+use Rattle.cells.specs.Flat.{body-at, put, first-of, second-of, is-join, is-blank, drive-from, answer-to, stepped, reset-to, nest-of, nest, Wired, none-share}
+use Rattle.cells.proofs.Passes.{not-true, put-same, put-other, length-put, joins-first, joins-second, joins-driven, twice-driven, blank-driven, Touched, touched-wired, Passed, passed, Answered, answered}
 
 -- two bodies wired alike
 pub record Alike (b c : Body) : Type 0 where
@@ -168,3 +169,55 @@ nest-resets n (suc f) i cs ds w r h l =
     by (body.Work t) below e same = refl
     by (body.Join k a b p d) below e same =
         rw (same a (below a (joins-first (body.Join k a b p d) refl)), same b (below b (joins-second (body.Join k a b p d) refl)))
+
+-- two lines that share none have none in common, and back
+pub apart-lines : (b c : Body) (k : ℕ) → shares b c ≡ false → joins-line k b ≡ true → joins-line k c ≡ true → ⊥
+apart-lines body.Blank c k s e f = both-ways false refl e
+apart-lines (body.Timed t) c k s e f = both-ways false refl e
+apart-lines (body.Work t) c k s e f = both-ways false refl e
+apart-lines (body.Join z a b p d) c k s e f = by (or-cases (eqb a k) (eqb b k) e)
+  where
+    by : (eqb a k ≡ true) ⊎ (eqb b k ≡ true) → ⊥
+    by (inl i) = both-ways (joins-line a c || joins-line b c) s (or-left _ _ (subst (λ j. joins-line j c ≡ true) (sym (eqb-true a k i)) f))
+    by (inr i) = both-ways (joins-line a c || joins-line b c) s (or-right _ _ (subst (λ j. joins-line j c ≡ true) (sym (eqb-true b k i)) f))
+
+pub lines-apart : (b c : Body) → ((k : ℕ) → joins-line k b ≡ true → joins-line k c ≡ true → ⊥) → shares b c ≡ false
+lines-apart body.Blank c n = refl
+lines-apart (body.Timed t) c n = refl
+lines-apart (body.Work t) c n = refl
+lines-apart (body.Join z a b p d) c n =
+    or-from (joins-line a c) (joins-line b c)
+    (not-true _ (n a (joins-first (body.Join z a b p d) refl)))
+    (not-true _ (n b (joins-second (body.Join z a b p d) refl)))
+
+pub none-share-at : (cs : List Cell) (b : Body) (n i : ℕ) → none-share cs b n ≡ true → i < n → shares (body-at cs i) b ≡ false
+unfolding none-share
+none-share-at cs b zero i e h = let z : ⊥ = omega arith in elim z [ ]
+none-share-at cs b (suc n) i e h =
+    let q = and-parts (not (shares (body-at cs n) b)) (none-share cs b n) e in
+    by (cases-eq i n) (not-is-true _ (q .0)) (λ l. none-share-at cs b n i (q .1) l)
+  where
+    not-is-true : (t : Bool) → not t ≡ true → t ≡ false
+    not-is-true true e = sym e
+    not-is-true false e = refl
+    by : (i ≡ n) ⊎ (i ≡ n → ⊥) → shares (body-at cs n) b ≡ false → (i < n → shares (body-at cs i) b ≡ false) → shares (body-at cs i) b ≡ false
+    by (inl z) s r = subst (λ k. shares (body-at cs k) b ≡ false) (sym z) s
+    by (inr z) s r = r (omega arith)
+
+pub none-shared : (cs : List Cell) (b : Body) (n : ℕ) → ((i : ℕ) → i < n → shares (body-at cs i) b ≡ false) → none-share cs b n ≡ true
+unfolding none-share
+none-shared cs b zero h = refl
+none-shared cs b (suc n) h =
+    and-from _ _ (ap not (h n (omega arith))) (none-shared cs b n (λ i l. h i (omega arith)))
+
+-- the wiring as a tree holds it
+pub wired-by : (n : ℕ) (cs : List Cell) → n ≤ length cs → ((j : ℕ) → j < n → is-blank (body-at cs j) ≡ false)
+    → ((j k : ℕ) → j < n → joins-line k (body-at cs j) ≡ true → k < j) → ((j : ℕ) → j < n → joins-twice (body-at cs j) ≡ false)
+    → ((j : ℕ) → j < n → none-share cs (body-at cs j) j ≡ true) → Wired n cs
+wired-by n cs f b e a o = record {
+    fits = f; filled = b; earlier = e; apart = a;
+    once = λ i j k lt h x y. apart-lines (body-at cs i) (body-at cs j) k (none-share-at cs (body-at cs j) j i (o j h) lt) x y }
+
+pub wired-once : (n : ℕ) (cs : List Cell) → Wired n cs → (j : ℕ) → j < n → none-share cs (body-at cs j) j ≡ true
+wired-once n cs w j h =
+    none-shared cs (body-at cs j) j (λ i lt. lines-apart (body-at cs i) (body-at cs j) (λ k x y. w .once i j k lt h x y))

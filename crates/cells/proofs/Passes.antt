@@ -198,7 +198,7 @@ pub record Passed (n : ℕ) (cs ms : List Cell) : Type 0 where
       ≡ driven-body (to-second (body-at ms j) (body-phase (body-at cs (first-of (body-at cs j)))) (body-phase (body-at cs (second-of (body-at cs j)))))
         (body-at cs (second-of (body-at cs j)))
 
-not-true : (b : Bool) → (b ≡ true → ⊥) → b ≡ false
+pub not-true : (b : Bool) → (b ≡ true → ⊥) → b ≡ false
 not-true true n = elim (n refl) [ ]
 not-true false n = refl
 

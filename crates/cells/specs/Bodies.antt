@@ -110,3 +110,10 @@ joins-twice (body.Join k a b p d) = eqb a b
 -- a cell of which nothing is set: all 0
 abbrev pub blank : Cell
 blank = record { name = record { bytes = 0 ∷ 0 ∷ 0 ∷ 0 ∷ 0 ∷ 0 ∷ 0 ∷ 0 ∷ 0 ∷ 0 ∷ 0 ∷ 0 ∷ []; len = 0 }; body = body.Blank }
+
+-- whether two lines join a line in common
+abbrev pub shares : Body → Body → Bool
+shares body.Blank c = false
+shares (body.Timed t) c = false
+shares (body.Work v) c = false
+shares (body.Join k a b p d) c = joins-line a c || joins-line b c

@@ -1,6 +1,6 @@
 -- The lines of a tree in a list of cells: the two passes of a step, and the nested tree that they stand for.
 use mathlib.Core.Path.{_≡_}
-use mathlib.Core.Bool.{Bool, true, false}
+use mathlib.Core.Bool.{Bool, true, false, not, _&&_}
 use mathlib.Core.List.{List, []}
 use Prim.Native.Nat.{ℕ, zero, suc, _≤_, _<_}
 use lib.ListN.{length, getD, set}
@@ -11,7 +11,7 @@ use Rattle.joins.specs.declared.rules.Drive.{Drive}
 use Rattle.cells.specs.declared.cell.Body.{Body}
 use Rattle.cells.specs.declared.cell.Body.the-variants as body
 use Rattle.cells.specs.declared.cell.Cell.{Cell}
-use Rattle.cells.specs.Bodies.{body-phase, driven-body, answered-body, reset-body, to-first, to-second, joins-line, joins-twice}
+use Rattle.cells.specs.Bodies.{body-phase, driven-body, answered-body, reset-body, to-first, to-second, joins-line, joins-twice, shares}
 use Rattle.cells.specs.Nests.{Nest, empty, timed-leaf, work-leaf, join}
 
 -- what stands past the end of the cells
@@ -110,3 +110,8 @@ pub record Wired (n : ℕ) (cs : List Cell) : Type 0 where
   pub earlier : (j k : ℕ) → j < n → joins-line k (body-at cs j) ≡ true → k < j
   pub apart : (j : ℕ) → j < n → joins-twice (body-at cs j) ≡ false
   pub once : (i j k : ℕ) → i < j → j < n → joins-line k (body-at cs i) ≡ true → joins-line k (body-at cs j) ≡ true → ⊥
+
+-- whether a line shares no joined line with any of the first n
+unfoldable pub none-share : List Cell → Body → ℕ → Bool
+none-share cs b zero = true
+none-share cs b (suc n) = not (shares (body-at cs n) b) && none-share cs b n

@@ -1,0 +1,4 @@
+// A tree of devices in cells that the caller lends.
+pub mod state;
+pub mod bare;
+pub mod calls;
