@@ -1,7 +1,7 @@
 -- The device of a line: its phase and denier, and what a drive, an answer and a reset make of it.
 use mathlib.Core.Path.{_≡_}
 use mathlib.Core.Bool.{Bool, true, false, cond, _||_}
-use mathlib.Core.List.{[], _∷_}
+use mathlib.Core.List.{[]}
 use Prim.Native.Nat.{ℕ}
 use lib.Dec.{eqb}
 use Rattle.std.specs.Options.{isSome}
@@ -14,6 +14,7 @@ use Rattle.leaves.specs.declared.timed.Timed.{Timed}
 use Rattle.leaves.specs.declared.work.Work.{Work}
 use Rattle.leaves.specs.Timed as timed
 use Rattle.leaves.specs.Work as work
+use Rattle.words.specs.Names.{name-of}
 use Rattle.joins.specs.declared.rules.Kind.{Kind}
 use Rattle.joins.specs.declared.rules.Drive.{Drive}
 use Rattle.joins.specs.declared.rules.Drive.the-variants.{Nothing, Lower, Raise}
@@ -107,9 +108,9 @@ joins-twice (body.Timed t) = false
 joins-twice (body.Work v) = false
 joins-twice (body.Join k a b p d) = eqb a b
 
--- a cell of which nothing is set: all 0
+-- a cell of which nothing is set: a name of no byte, 12 zeros, and no device
 abbrev pub blank : Cell
-blank = record { name = record { bytes = 0 ∷ 0 ∷ 0 ∷ 0 ∷ 0 ∷ 0 ∷ 0 ∷ 0 ∷ 0 ∷ 0 ∷ 0 ∷ 0 ∷ []; len = 0 }; body = body.Blank }
+blank = record { name = name-of []; body = body.Blank }
 
 -- whether two lines join a line in common
 abbrev pub shares : Body → Body → Bool

@@ -1,6 +1,6 @@
 // A cell holds one line of a topology: its name, and the device that it is.
 ghost use mathlib.Core.Path.{_≡_};
-ghost use Rattle.cells.specs.Bodies.{blank, body-phase, body-denier};
+ghost use Rattle.cells.specs.Bodies.{blank};
 use channel::phase::Phase;
 use joins::rules::Kind;
 use leaves::timed::Timed;
@@ -26,4 +26,16 @@ pub enum Body {
 pub struct Cell {
     pub name: Name,
     pub body: Body,
+}
+
+impl Cell {
+    // A cell of which nothing is set.
+    pub fn blank() -> Self
+        ensures { λ r. ⌜ r ≡ blank ⌝ }
+    {
+        Cell {
+            name: Name::new(b""),
+            body: Body::Blank,
+        }
+    }
 }

@@ -10,7 +10,7 @@ use Rattle.channel.specs.declared.phase.Phase.the-variants.{Run, Request, Stopp
 use Rattle.joins.specs.declared.rules.Drive.{Drive}
 use Rattle.joins.specs.declared.rules.Drive.the-variants.{Nothing, Lower, Raise}
 use Rattle.cells.specs.declared.cell.Cell.{Cell}
-use Rattle.cells.specs.Bodies.{body-phase, body-denier, driven-body}
+use Rattle.cells.specs.Bodies.{body-phase, body-denier, driven-body, reset-body}
 use Rattle.cells.specs.Nests.{Nest, empty, nest-means, drive-nest, turn, reset-nest}
 use Rattle.cells.specs.Flat.{body-at, put, stepped, reset-to, nest, Wired}
 use Rattle.cells.proofs.Calls.{top-drives, driven-wired, stepped-wired, reset-all, reset-wired, nest-resets}
@@ -199,3 +199,15 @@ raise-bound t u m e = subst (λ r. Charged r (tree-timing t) (tree-timing u)) e 
 pub raise-ok : (p q : Phase) → p ≡ q → (p ≡ Stopped) ⊎ (p ≡ Denied) → raise-answer q ≡ Ok tt
 raise-ok p q e (inl i) = ap raise-answer (sym e ∙ i)
 raise-ok p q e (inr i) = ap raise-answer (sym e ∙ i)
+
+-- a tree whose lines are as after a reset is its own reset
+pub fresh-nested : (n : ℕ) (cs : List Cell) → Wired n cs → ((i : ℕ) → i < n → body-at cs i ≡ reset-body (body-at cs i))
+    → top n Stopped cs ≡ reset-nest (top n Stopped cs)
+fresh-nested zero cs w f = refl
+fresh-nested (suc t) cs w f =
+    nest-resets (suc t) (suc t) t cs cs w (record { long = refl; done = f; rest = λ i h. refl }) (omega arith) (omega arith)
+
+pub fresh-reset : (n : Nest) → n ≡ reset-nest n → Reset (nest-means n) (nest-means n) × NestOrder n
+fresh-reset n e =
+    let k = reset-kept n in
+    (subst (λ m. Reset (nest-means n) (nest-means m)) (sym e) (k .order), subst NestOrder (sym e) (k .kept))

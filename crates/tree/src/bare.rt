@@ -1,9 +1,12 @@
 // The passes over lent cells.
 ghost use mathlib.Core.Path.{_≡_};
-ghost use Prim.Native.Nat.{_-_};
+ghost use Prim.Native.Nat.{ℕ, _<_};
 ghost use denote.Ref.{name};
-ghost use Rattle.cells.specs.Bodies.{driven-body};
-ghost use Rattle.cells.specs.Flat.{body-at, put, stepped, reset-to};
+ghost use lib.ListN.{length};
+ghost use Rattle.topology.specs.Format.{outcome};
+ghost use Rattle.cells.specs.Bodies.{driven-body, reset-body};
+ghost use Rattle.cells.specs.Flat.{body-at, put, stepped, reset-to, Wired};
+ghost use Rattle.tree.specs.Loads.{load-answer, LoadedAs};
 use cells::cell::Body;
 use cells::lines::body_of;
 use cells::lines::put_body;
@@ -11,6 +14,10 @@ use cells::lines::reset_lines;
 use cells::lines::step_lines;
 use cells::rules::body_driven;
 use joins::rules::Drive;
+use topology::fault::Fault;
+use topology::reader::read;
+use crate::lay::blank_all;
+use crate::lay::lay;
 use crate::state::Bare;
 
 impl Bare<'_> {
@@ -55,5 +62,28 @@ impl Bare<'_> {
     {
         let n = self.count;
         reset_lines(self.cells, n);
+    }
+
+    // Reads a topology into the cells, or makes them all blank.
+    pub(crate) fn load(&mut self, text: &[u8]) -> Result<(), Fault>
+        ensures told { λ r. ⌜ r ≡ load-answer (outcome (now (text .entry)) (length (now (now (self .entry) .cells)))) ⌝ }
+        ensures lines { λ _. ⌜ LoadedAs (outcome (now (text .entry)) (length (now (now (self .entry) .cells)))) (now (self .exit) .count) (now (now (self .exit) .cells)) ⌝ }
+        ensures wired { λ _. ⌜ Wired (now (self .exit) .count) (now (now (self .exit) .cells)) ⌝ }
+        ensures fresh { λ _. ⌜ ((i : ℕ) → i < now (self .exit) .count → body-at (now (now (self .exit) .cells)) i ≡ reset-body (body-at (now (now (self .exit) .cells)) i)) ⌝ }
+        ensures long { λ _. ⌜ length (now (now (self .exit) .cells)) ≡ length (now (now (self .entry) .cells)) ⌝ }
+        ensures keeps { λ _. ⌜ name (now (self .exit) .cells) ≡ name (now (self .entry) .cells) ⌝ }
+    {
+        match read(text, self.cells.len()) {
+            Ok(plan) => {
+                lay(self.cells, &plan);
+                self.count = plan.len();
+                Ok(())
+            }
+            Err(fault) => {
+                blank_all(self.cells);
+                self.count = 0;
+                Err(fault)
+            }
+        }
     }
 }

@@ -2,3 +2,5 @@
 pub mod state;
 pub mod bare;
 pub mod calls;
+pub mod lay;
+pub mod load;

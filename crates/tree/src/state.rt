@@ -25,13 +25,3 @@ pub struct Tree<'a> {
     ghost apart: { (j : ℕ) → j < bare .count → joins-twice (body-at (pointee (bare .cells)) j) ≡ false },
     ghost once: { (j : ℕ) → j < bare .count → none-share (pointee (bare .cells)) (body-at (pointee (bare .cells)) j) j ≡ true },
 }
-
-impl<'a> Tree<'a> {
-    // An empty tree, at Stopped. Writes no cell.
-    pub fn new(cells: &'a mut [Cell]) -> Self {
-        Tree {
-            bare: Bare { cells, count: 0 },
-            own: Phase::Stopped,
-        }
-    }
-}

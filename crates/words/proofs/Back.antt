@@ -1,19 +1,18 @@
 -- Words without the byte at which a text is cut come back from it, and numbers from their decimal. Assumes nothing.
 use mathlib.Core.Path.{_≡_, refl, sym, ap, subst, _∙_}
 use mathlib.Core.List.{List, [], _∷_, _++_}
-use mathlib.Core.Bool.{Bool, true, false, not, cond, _&&_, _||_}
+use mathlib.Core.Bool.{Bool, true, false, not, _&&_, _||_}
 use mathlib.Core.Logic.{⊎-elim}
-use Prim.Native.Nat.{ℕ, zero, suc, _+_, _-_, _^_, _<_, _≤_}
+use Prim.Native.Nat.{ℕ, suc, _+_, _-_, _^_, _<_, _≤_}
 use native.Mathlib.Omega.{arith}
 use native.Mathlib.Numerals.{sub-one}
 use borrow.Author.Needs.{needs}
 use lib.Dec.{eqb, leb, ltb}
 use lib.ListN.{length, getD}
 use Rattle.std.specs.Written.{decimal}
-use Rattle.std.specs.declared.option.Option.{Option}
-use Rattle.std.specs.declared.option.Option.the-variants.{Some, None}
+use Rattle.std.specs.declared.option.Option.the-variants.{Some}
 use Rattle.std.specs.shelf.Lists.{All}
-use Rattle.std.proofs.shelf.Tests.{and-parts, and-from, or-cases, leb-true, le-leb, le-ltb, ne-eqb, cond-true, cond-false, cases-eq, or-left, not-from-false}
+use Rattle.std.proofs.shelf.Tests.{and-parts, and-from, or-cases, leb-true, le-leb, le-ltb, ne-eqb, cond-true, cond-false, cases-eq}
 use Rattle.std.proofs.shelf.Decimals.{decimal-digit, decimal-some, first-decimal, digits-decimal, value-decimal}
 use Rattle.words.specs.Pieces.{pieces, onto, words-of, lines-of, spaced, unlines}
 use Rattle.words.specs.Numbers.{digit, digits, value, well-led, byte-of, at-least, number-of}

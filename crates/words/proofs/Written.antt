@@ -1,8 +1,8 @@
 -- A word gives back what was read of it, and the words of a line give back the line. Assumes nothing.
 use mathlib.Core.Path.{_≡_, refl, sym, ap, subst, _∙_}
-use mathlib.Core.List.{List, [], _∷_, _++_, append-nil}
+use mathlib.Core.List.{List, [], _∷_, _++_}
 use mathlib.Core.Bool.{Bool, true, false, not, cond, _&&_, _||_}
-use Prim.Native.Nat.{ℕ, zero, suc, _+_, _-_, _^_, _<_, _≤_, min}
+use Prim.Native.Nat.{ℕ, suc, _+_, _-_, _<_, _≤_, min}
 use native.Mathlib.Omega.{arith}
 use native.Mathlib.Numerals.{sub-one}
 use borrow.Author.Needs.{needs}
@@ -11,13 +11,13 @@ use lib.ListN.{length, getD, take, replicate}
 use Rattle.std.specs.Written.{decimal}
 use Rattle.std.specs.declared.option.Option.{Option}
 use Rattle.std.specs.declared.option.Option.the-variants.{Some, None}
-use Rattle.std.proofs.shelf.Lists.{take-all, take-at, length-append, length-replicate}
-use Rattle.std.proofs.shelf.Tests.{and-parts, leb-true, ltb-false, eqb-true, or-cases, not-true, eqb-false}
+use Rattle.std.proofs.shelf.Lists.{take-all, take-at}
+use Rattle.std.proofs.shelf.Tests.{and-parts, leb-true, ltb-false, eqb-true, eqb-false}
 use Rattle.std.proofs.shelf.Numerals.{Numerals, numerals-by-fold}
 use Rattle.std.proofs.shelf.Decimals.{decimal-value}
 use Rattle.words.specs.Pieces.{pieces, onto, words-of, lines-of, spaced, unlines}
-use Rattle.words.specs.Numbers.{digit, digits, value-on, value, well-led, byte-of, at-least, number-of}
-use Rattle.words.specs.Names.{letter, letters-digits, legal, name-of, text-of}
+use Rattle.words.specs.Numbers.{digits, value-on, value, well-led, byte-of, at-least, number-of}
+use Rattle.words.specs.Names.{letter, legal, name-of, text-of}
 use Rattle.words.proofs.Cuts.{pieces-count, lines-at}
 
 -- names

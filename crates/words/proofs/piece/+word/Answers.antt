@@ -4,11 +4,10 @@ use mathlib.Core.Logic.{⊎-elim}
 use Prim.Native.Nat.{ℕ, zero, suc, _+_, _-_, _≤_, _<_}
 use native.Mathlib.Numerals.{sub-one}
 use native.Mathlib.Nat.{sub-zero}
-use native.Mathlib.Omega.{arith}
 use lib.ListN.{length, take, drop, getD}
-use Rattle.std.proofs.shelf.Lists.{take-all, drop-all, take-rest, getD-past}
+use Rattle.std.proofs.shelf.Lists.{take-all, drop-all, take-rest}
 use Rattle.std.proofs.shelf.Tests.{cases-lt}
-use Rattle.words.specs.Pieces.{place-of, pieces, word-of}
+use Rattle.words.specs.Pieces.{place-of, word-of}
 use Rattle.words.proofs.Cuts.{pieces-at, pieces-last}
 use Rattle.words.proofs.piece.+word.Needs as need
 
