@@ -44,7 +44,7 @@ join-truly Continue d a b sa sb h = record {
     denies = λ e. both-each a b sa sb (h .0) }
 
 -- a Q end is in time where the device is
-q-in-time : (p : Phase) (t : Timing) → Timely p t → InTime (q-end p) t
+pub q-in-time : (p : Phase) (t : Timing) → Timely p t → InTime (q-end p) t
 q-in-time p t h = record { some-left = grind arith; at-most = grind arith }
 
 module _ {R A B : Type 0} (k : Kind) (oa : A → Type 0) (ma : A → Means) (ta : A → Timing)

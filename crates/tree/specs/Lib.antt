@@ -1,2 +1,5 @@
 pub mod Trees
 pub mod Loads
+pub mod Jobs
+pub mod Stack
+pub mod Nesting

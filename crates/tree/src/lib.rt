@@ -4,3 +4,5 @@ pub mod bare;
 pub mod calls;
 pub mod lay;
 pub mod load;
+pub mod job;
+pub mod stack;
