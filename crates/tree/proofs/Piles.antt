@@ -1,6 +1,9 @@
 -- A tree whose top is a join shows what is so, as the library's join does.
 use mathlib.Core.Path.{_≡_, refl, sym, _∙_, ap, subst}
 use mathlib.Core.Bool.{Bool, true, false}
+use mathlib.Core.List.{List}
+use native.Mathlib.Omega.{arith}
+use Prim.Native.Nat.{ℕ, zero, suc, _-_, _<_}
 use Rattle.std.specs.declared.option.Option.the-variants.{None}
 use Rattle.std.proofs.shelf.Tests.{both-ways}
 use Rattle.channel.specs.declared.phase.Phase.{Phase}
@@ -20,10 +23,14 @@ use Rattle.pile.specs.Runs.{Fit, Linked}
 use Rattle.channel.specs.Device.{InOrder}
 use Rattle.joins.proofs.Shows.{join-truly, q-in-time}
 use Rattle.cells.specs.Nests.{Nest, empty, timed-leaf, work-leaf, join, nest-means, nest-timing, NestOrder, drive-nest, turn, reset-nest, nest-after}
+use Rattle.cells.specs.declared.cell.Body.{Body}
+use Rattle.cells.specs.declared.cell.Body.the-variants as body
+use Rattle.cells.specs.declared.cell.Cell.{Cell}
+use Rattle.cells.specs.Flat.{body-at, is-join, nest-of, nest}
 use Rattle.cells.proofs.Nested.{nest-in-order}
 use Rattle.tree.specs.declared.state.Tree.{Tree}
 use Rattle.tree.specs.Nesting.{is-joined}
-use Rattle.tree.specs.Trees.{tree-nest, tree-means, tree-timing, TreeOrder, TreeMade}
+use Rattle.tree.specs.Trees.{top, tree-nest, tree-means, tree-timing, TreeOrder, TreeMade}
 use Rattle.tree.specs.declared.stack.TreeCall.{TreeCall}
 use Rattle.tree.specs.Stack.{tree-view, TopJoins, PileOrder, tree-kind, call-makes}
 use Rattle.tree.proofs.Tops.{in-order}
@@ -98,3 +105,16 @@ own-linked q b t u m c d k f =
 pub record CallDone (k : TreeCall) (b : Bool) (t u : Tree) : Type 0 where
   pub exact : call-makes k b t u
   pub linked : Fit PileOrder tree-view tree-timing t → Linked PileOrder tree-view tree-timing (tree-kind k) b t u
+
+nest-joined : (b : Body) (f : ℕ → Nest) → is-join b ≡ is-joined (nest-of b f)
+nest-joined body.Blank f = refl
+nest-joined (body.Timed t) f = refl
+nest-joined (body.Work w) f = refl
+nest-joined (body.Join k a b p d) f = refl
+
+pub top-joined : (n : ℕ) (own : Phase) (cs : List Cell) → 0 < n → is-join (body-at cs (n - 1)) ≡ is-joined (top n own cs)
+unfolding nest
+top-joined zero own cs h = let z : ⊥ = omega arith in elim z [ ]
+top-joined (suc t) own cs h =
+    let e : suc t - 1 ≡ t = omega arith in
+    ap (λ k. is-join (body-at cs k)) e ∙ nest-joined (body-at cs t) (nest t cs)

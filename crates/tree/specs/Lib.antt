@@ -3,3 +3,4 @@ pub mod Loads
 pub mod Jobs
 pub mod Stack
 pub mod Nesting
+pub mod Tells

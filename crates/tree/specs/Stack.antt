@@ -1,4 +1,5 @@
 -- A tree as a pile: what is seen of it, and its own calls.
+use denote.Ref.{name}
 use mathlib.Core.Path.{_≡_}
 use mathlib.Core.Bool.{Bool, true}
 use mathlib.Core.List.{List}
@@ -15,7 +16,7 @@ use Rattle.tree.specs.declared.state.Tree.{Tree}
 use Rattle.tree.specs.declared.stack.TreeCall.{TreeCall}
 use Rattle.tree.specs.declared.stack.TreeCall.the-variants.{Lower, Raise, Step, Job}
 use Rattle.tree.specs.Nesting.{is-joined}
-use Rattle.tree.specs.Trees.{tree-nest, tree-means, TreeOrder, TreeMade}
+use Rattle.tree.specs.Trees.{lines-of, tree-nest, tree-means, TreeOrder, TreeMade}
 use Rattle.tree.specs.Jobs.{JobMade}
 
 abbrev pub tree-view : Tree → View
@@ -46,3 +47,10 @@ call-makes Lower b t u = q-makes tree-means TreeMade own.Lower b t u
 call-makes Raise b t u = q-makes tree-means TreeMade own.Raise b t u
 call-makes Step b t u = q-makes tree-means TreeMade own.Step b t u
 call-makes (Job w n) b t u = JobCalled (text-of w) n b t u
+
+-- nothing changed
+pub record Untouched (t u : Tree) : Type 0 where
+  pub count : u .bare .count ≡ t .bare .count
+  pub cells : lines-of u ≡ lines-of t
+  pub own : u .own ≡ t .own
+  pub lent : name (u .bare .cells) ≡ name (t .bare .cells)

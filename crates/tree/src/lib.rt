@@ -6,3 +6,5 @@ pub mod lay;
 pub mod load;
 pub mod job;
 pub mod stack;
+pub mod lines;
+pub mod played;

@@ -10,12 +10,14 @@ use cells::cell::Cell;
 use channel::phase::Phase;
 
 // Lines in lent cells. No fact is held of them here.
+#[derive(Drop)]
 pub struct Bare<'a> {
     pub(crate) cells: &'a mut [Cell],
     pub(crate) count: usize,
 }
 
 // Every line is a device; lines join earlier lines, and no line is joined twice.
+#[derive(Drop)]
 pub struct Tree<'a> {
     pub(crate) bare: Bare<'a>,
     pub(crate) own: Phase,
