@@ -57,10 +57,10 @@ pub fn print_tally(rt: &LibcRuntime, name: &str, tally: &Tally, bound: u32) -> i
     let denied = tally.denied();
     let steps = tally.steps();
     let longest = tally.longest();
-    println!(rt, "  {name}: requests {requests}, accepted {accepted}, denied {denied}")?;
+    println!(rt, "  {name}: {requests} requests, {accepted} accepted, {denied} denied")?;
     if let Some(tag) = tally.denier() {
         let leaf = name_of(tag);
         println!(rt, "    denied by {leaf}, tag {tag}")?;
     }
-    println!(rt, "    steps {steps}, longest change {longest}, bound {bound}")
+    println!(rt, "    {steps} steps, {longest} in the longest change, of at most {bound}")
 }
