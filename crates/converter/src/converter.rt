@@ -7,7 +7,8 @@ ghost use Rattle.std.specs.Results.{isOk};
 ghost use Rattle.channel.specs.Means.{tags};
 ghost use Rattle.channel.specs.Calls.{Reset};
 ghost use Rattle.pile.specs.Calls.{stop, back, tick};
-ghost use Rattle.pile.specs.Runs.{Linked};
+ghost use Rattle.pile.specs.Runs.{Fit, Linked};
+ghost use Rattle.pile.specs.Views.{Begun};
 ghost use Rattle.converter.specs.Converter.{p-refusal-number, ask-answer, drop-answer, after-ask, drop-at, StepMade, StartMade, ConverterOrder, view-of, time-of};
 use channel::device::QDevice;
 use channel::pphase::PPhase;
@@ -93,6 +94,8 @@ impl<D: QDevice> Converter<D> {
     pub fn new(device: D) -> Self
         ensures made { λ r. ⌜ StartMade (D·QDevice .makes) device r ⌝ }
         ensures kept { λ r. ⌜ ConverterOrder (D·QDevice .ordered) (D·QDevice .means) (D·QDevice .timing) r ⌝ }
+        ensures begun { λ r. ⌜ Begun (view-of (D·QDevice .means) r) ⌝ }
+        ensures fit { λ r. ⌜ Fit (ConverterOrder (D·QDevice .ordered) (D·QDevice .means) (D·QDevice .timing)) (view-of (D·QDevice .means)) (time-of (D·QDevice .means) (D·QDevice .timing)) r ⌝ }
         ensures leaves { λ r. ⌜ tags (D·QDevice .means (r .device) .leaves) ≡ tags (D·QDevice .means device .leaves) ⌝ }
         ensures bound { λ r. ⌜ time-of (D·QDevice .means) (D·QDevice .timing) r .bound ≡ 2 * D·QDevice .timing device .bound ⌝ }
     {

@@ -7,7 +7,9 @@ ghost use Rattle.joins.specs.declared.rules.Kind.the-variants as kinds;
 ghost use Rattle.joins.specs.Rules.{DriveMakes};
 ghost use Rattle.joins.specs.Turns.{Drove};
 ghost use Rattle.joins.specs.declared.rules.Drive.the-variants.{Nothing};
-
+ghost use Rattle.pile.specs.OfQ.{q-view};
+ghost use Rattle.pile.specs.Views.{Begun};
+ghost use Rattle.pile.specs.Runs.{Fit};
 ghost use Rattle.joins.specs.Join.{join-means, join-time, JoinOrder, Whole, join-makes, Made, Holds};
 use channel::device::QDevice;
 use channel::device::Refusal;
@@ -89,6 +91,8 @@ fn over<R: Rule, A: QDevice, B: QDevice>(rule: R, mut first: A, mut second: B) -
     ensures made { λ r. ⌜ Made (A·QDevice .makes) (B·QDevice .makes) rule first second r ⌝ }
     ensures holds { λ r. ⌜ Holds (R·Rule .kind) (A·QDevice .means) (A·QDevice .timing) (B·QDevice .means) (B·QDevice .timing) first second r ⌝ }
     ensures kept { λ r. ⌜ Whole (R·Rule .kind) (A·QDevice .ordered) (A·QDevice .means) (A·QDevice .timing) (B·QDevice .ordered) (B·QDevice .means) (B·QDevice .timing) r ⌝ }
+    ensures begun { λ r. ⌜ Begun (q-view (join-means (A·QDevice .means) (B·QDevice .means) r)) ⌝ }
+    ensures fit { λ r. ⌜ Fit (JoinOrder (R·Rule .kind) (A·QDevice .ordered) (A·QDevice .means) (A·QDevice .timing) (B·QDevice .ordered) (B·QDevice .means) (B·QDevice .timing)) (λ j. q-view (join-means (A·QDevice .means) (B·QDevice .means) j)) (join-time (R·Rule .kind) (A·QDevice .means) (A·QDevice .timing) (B·QDevice .means) (B·QDevice .timing)) r ⌝ }
 {
     first.reset();
     second.reset();
@@ -107,6 +111,8 @@ impl<A: QDevice, B: QDevice> Join<Parallel, A, B> {
         ensures made { λ r. ⌜ Made (A·QDevice .makes) (B·QDevice .makes) (r .rule) first second r ⌝ }
         ensures holds { λ r. ⌜ Holds kinds.Distributor (A·QDevice .means) (A·QDevice .timing) (B·QDevice .means) (B·QDevice .timing) first second r ⌝ }
         ensures kept { λ r. ⌜ Whole kinds.Distributor (A·QDevice .ordered) (A·QDevice .means) (A·QDevice .timing) (B·QDevice .ordered) (B·QDevice .means) (B·QDevice .timing) r ⌝ }
+        ensures begun { λ r. ⌜ Begun (q-view (join-means (A·QDevice .means) (B·QDevice .means) r)) ⌝ }
+        ensures fit { λ r. ⌜ Fit (JoinOrder kinds.Distributor (A·QDevice .ordered) (A·QDevice .means) (A·QDevice .timing) (B·QDevice .ordered) (B·QDevice .means) (B·QDevice .timing)) (λ j. q-view (join-means (A·QDevice .means) (B·QDevice .means) j)) (join-time kinds.Distributor (A·QDevice .means) (A·QDevice .timing) (B·QDevice .means) (B·QDevice .timing)) r ⌝ }
     {
         over(Parallel, first, second)
     }
@@ -118,6 +124,8 @@ impl<A: QDevice, B: QDevice> Join<Serial, A, B> {
         ensures made { λ r. ⌜ Made (A·QDevice .makes) (B·QDevice .makes) (r .rule) first second r ⌝ }
         ensures holds { λ r. ⌜ Holds kinds.Sequencer (A·QDevice .means) (A·QDevice .timing) (B·QDevice .means) (B·QDevice .timing) first second r ⌝ }
         ensures kept { λ r. ⌜ Whole kinds.Sequencer (A·QDevice .ordered) (A·QDevice .means) (A·QDevice .timing) (B·QDevice .ordered) (B·QDevice .means) (B·QDevice .timing) r ⌝ }
+        ensures begun { λ r. ⌜ Begun (q-view (join-means (A·QDevice .means) (B·QDevice .means) r)) ⌝ }
+        ensures fit { λ r. ⌜ Fit (JoinOrder kinds.Sequencer (A·QDevice .ordered) (A·QDevice .means) (A·QDevice .timing) (B·QDevice .ordered) (B·QDevice .means) (B·QDevice .timing)) (λ j. q-view (join-means (A·QDevice .means) (B·QDevice .means) j)) (join-time kinds.Sequencer (A·QDevice .means) (A·QDevice .timing) (B·QDevice .means) (B·QDevice .timing)) r ⌝ }
     {
         over(Serial, first, second)
     }

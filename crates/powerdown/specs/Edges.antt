@@ -7,7 +7,10 @@ use Rattle.std.specs.declared.option.Option.{Option}
 use Rattle.std.specs.declared.option.Option.the-variants.{Some, None}
 use Rattle.channel.specs.declared.phase.Phase.{Phase}
 use Rattle.channel.specs.declared.phase.Phase.the-variants.{Run, Request, Stopped, Exit, Denied, Continue}
+use Rattle.channel.specs.declared.pphase.PPhase.{PPhase}
+use Rattle.channel.specs.declared.pphase.PPhase.the-variants as p
 use Rattle.channel.specs.Phases.{number-of, allowed}
+use Rattle.channel.specs.PPhases.{p-allowed}
 
 abbrev pub open-test : Phase → Bool
 open-test Run = false
@@ -16,6 +19,18 @@ open-test Stopped = false
 open-test Exit = true
 open-test Denied = false
 open-test Continue = true
+
+abbrev pub p-open-test : PPhase → Bool
+p-open-test p.Stable = false
+p-open-test p.Request = true
+p-open-test p.Accept = false
+p-open-test p.Complete = true
+p-open-test p.Denied = false
+p-open-test p.Continue = true
+
+-- the edge of a P-Channel
+abbrev pub p-edge-of : PPhase → PPhase → Option PPhase
+p-edge-of p q = cond (p-allowed p q) (Some q) None
 
 abbrev is : Phase → Phase → Bool
 is p q = eqb (number-of p) (number-of q)

@@ -1,3 +1,4 @@
 pub mod Edges
 pub mod Design
+pub mod Watched
 pub mod Tally

@@ -1,7 +1,38 @@
 // What happened in a power-down. Counts stay at the greatest number.
 ghost use mathlib.Core.Path.{_≡_};
-ghost use Rattle.powerdown.specs.Tally.{none-yet, more, with-step, with-change, with-request, with-answer};
+ghost use Rattle.powerdown.specs.Tally.{none-yet, more, with-step, with-change, with-request, with-answer, ending-of, p-ending-of};
 use channel::phase::Phase;
+use channel::pphase::PPhase;
+
+// How a request stands.
+#[derive(Clone, Copy)]
+pub enum Ending {
+    Accepted,
+    Denied,
+    Unanswered,
+}
+
+// The answer of a Q-Channel.
+pub fn ending_of(phase: Phase) -> Ending
+    ensures { λ r. ⌜ r ≡ ending-of phase ⌝ }
+{
+    match phase {
+        Phase::Stopped => Ending::Accepted,
+        Phase::Denied => Ending::Denied,
+        _ => Ending::Unanswered,
+    }
+}
+
+// The answer of a P-Channel.
+pub fn p_ending_of(phase: PPhase) -> Ending
+    ensures { λ r. ⌜ r ≡ p-ending-of phase ⌝ }
+{
+    match phase {
+        PPhase::Accept => Ending::Accepted,
+        PPhase::Denied => Ending::Denied,
+        _ => Ending::Unanswered,
+    }
+}
 
 #[derive(Clone, Copy)]
 pub struct Tally {
@@ -48,19 +79,19 @@ impl Tally {
         self.requests = self.requests.saturating_add(1);
     }
 
-    // How a request ended: the phase and the denier then.
-    pub fn answer(&mut self, phase: Phase, denier: Option<u32>)
-        ensures { λ _. ⌜ now (self .exit) ≡ with-answer phase denier (now (self .entry)) ⌝ }
+    // How a request ended, and the denier then.
+    pub fn answer(&mut self, ending: Ending, denier: Option<u32>)
+        ensures { λ _. ⌜ now (self .exit) ≡ with-answer ending denier (now (self .entry)) ⌝ }
     {
-        match phase {
-            Phase::Stopped => {
+        match ending {
+            Ending::Accepted => {
                 self.accepted = self.accepted.saturating_add(1);
             }
-            Phase::Denied => {
+            Ending::Denied => {
                 self.denied = self.denied.saturating_add(1);
                 self.denier = denier;
             }
-            _ => {}
+            Ending::Unanswered => {}
         }
     }
 

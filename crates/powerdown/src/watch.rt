@@ -1,7 +1,8 @@
 // The edges that one step made on a channel, told from its phases before and after.
 ghost use mathlib.Core.Path.{_≡_};
-ghost use Rattle.powerdown.specs.Edges.{drive-edge, answer-edge, Follows, open-test};
+ghost use Rattle.powerdown.specs.Edges.{drive-edge, answer-edge, Follows, open-test, p-open-test, p-edge-of};
 use channel::phase::Phase;
+use channel::pphase::PPhase;
 
 // Whether a phase ends by itself.
 pub fn is_open(phase: Phase) -> bool
@@ -11,6 +12,22 @@ pub fn is_open(phase: Phase) -> bool
         Phase::Request | Phase::Exit | Phase::Continue => true,
         _ => false,
     }
+}
+
+pub fn p_is_open(phase: PPhase) -> bool
+    ensures { λ r. ⌜ r ≡ p-open-test phase ⌝ }
+{
+    match phase {
+        PPhase::Request | PPhase::Complete | PPhase::Continue => true,
+        _ => false,
+    }
+}
+
+// The edge of a P-Channel, of which a call makes one at most: where it led, if there was one.
+pub fn p_edge(before: PPhase, after: PPhase) -> Option<PPhase>
+    ensures { λ r. ⌜ r ≡ p-edge-of before after ⌝ }
+{
+    if before.allows(after) { Some(after) } else { None }
 }
 
 // The edge of QREQn, which comes first: where it led, if there was one.
