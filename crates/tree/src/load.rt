@@ -8,6 +8,9 @@ ghost use Rattle.channel.specs.Device.{InOrder};
 ghost use Rattle.topology.specs.Format.{outcome};
 ghost use Rattle.cells.specs.Nests.{reset-nest};
 ghost use Rattle.tree.specs.Trees.{lines-of, tree-nest, tree-means, tree-timing, TreeOrder};
+ghost use Rattle.pile.specs.Views.{Begun};
+ghost use Rattle.pile.specs.Runs.{Fit};
+ghost use Rattle.tree.specs.Stack.{tree-view, TopJoins, PileOrder};
 ghost use Rattle.tree.specs.Loads.{load-answer, LoadedAs};
 use cells::cell::Cell;
 use channel::phase::Phase;
@@ -31,7 +34,7 @@ impl<'a> Tree<'a> {
     }
 
     // Reads a topology. After it every line is as after a reset and spare cells are blank;
-    // after a refusal all cells are blank and the tree is empty.
+    // after a refusal all cells are blank and the tree is empty. A tree just loaded is where a run may begin.
     pub fn load(&mut self, text: &[u8]) -> Result<(), Fault>
         ensures told { λ r. ⌜ r ≡ load-answer (outcome (now (text .entry)) (length (lines-of (now (self .entry))))) ⌝ }
         ensures lines { λ _. ⌜ LoadedAs (outcome (now (text .entry)) (length (lines-of (now (self .entry))))) (now (self .exit) .bare .count) (lines-of (now (self .exit))) ⌝ }
@@ -41,6 +44,8 @@ impl<'a> Tree<'a> {
         ensures fresh { λ _. ⌜ tree-nest (now (self .exit)) ≡ reset-nest (tree-nest (now (self .exit))) ⌝ }
         ensures order { λ _. ⌜ Reset (tree-means (now (self .exit))) (tree-means (now (self .exit))) ⌝ }
         ensures kept { λ _. ⌜ InOrder TreeOrder tree-means tree-timing (now (self .exit)) ⌝ }
+        ensures begun { λ _. ⌜ Begun (tree-view (now (self .exit))) ⌝ }
+        ensures fit { λ _. ⌜ (TopJoins (now (self .exit)) → Fit PileOrder tree-view tree-timing (now (self .exit))) ⌝ }
     {
         let answer = self.bare.load(text);
         self.own = Phase::Stopped;

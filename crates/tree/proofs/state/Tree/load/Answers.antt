@@ -1,5 +1,6 @@
 use mathlib.Core.Path.{_≡_, refl}
 use Rattle.tree.proofs.Held.{held}
+use Rattle.tree.proofs.Piles.{tree-fit, tree-begun}
 use Rattle.tree.proofs.Tops.{in-order, fresh-nested, fresh-reset}
 use Rattle.tree.proofs.state.Tree.load.Needs as need
 
@@ -14,4 +15,6 @@ returns c =
         told = b .told; lines = b .lines; long = b .long; own = refl; lent = b .keeps;
         fresh = fresh;
         order = fresh-reset _ fresh .0;
-        kept = in-order _ (fresh-reset _ fresh .1) }
+        kept = in-order _ (fresh-reset _ fresh .1);
+        begun = tree-begun _ _ (fresh-reset _ fresh .0);
+        fit = λ j. tree-fit _ (record { order = fresh-reset _ fresh .1; joins = j }) }
