@@ -1,4 +1,6 @@
 // The edges of a tree's lines, written as they happen.
+#![tactic(auto)]
+
 pub mod named;
 pub mod passes;
 pub mod told;

@@ -1,4 +1,6 @@
 // Leaf devices: one that answers after a delay, and one that works off jobs.
+#![tactic(auto)]
+
 pub mod delays;
 pub mod timed;
 pub mod work;

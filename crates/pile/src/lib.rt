@@ -1,3 +1,5 @@
 // Piles, and the promise that holds of every one of them.
+#![tactic(auto)]
+
 pub mod own;
 pub mod pile;

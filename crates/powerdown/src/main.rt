@@ -1,4 +1,6 @@
 // Takes two small designs through a whole power-down and prints what happened.
+#![tactic(auto)]
+
 use std::io;
 
 mod island;

@@ -1,4 +1,6 @@
 // A tree of devices in cells that the caller lends.
+#![tactic(auto)]
+
 pub mod bare;
 pub mod calls;
 pub mod job;

@@ -1,5 +1,7 @@
 // Plays a loaded tree through the call that carries the promise, and prints what it played:
 // after each call the levels of every line.
+#![tactic(auto)]
+
 use cells::cell::Cell;
 use channel::device::QDevice;
 use channel::phase::Phase;
