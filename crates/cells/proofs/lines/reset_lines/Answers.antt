@@ -8,7 +8,7 @@ loop-i-init c = reset_start _
 
 pub loop-i-preserved : goal.loop-i-preserved
 loop-i-preserved c =
-    reset_up _ _ _ _ _ _ c.loop-i.invariant c.body-of-line.ensures c.body-reset.ensures c.put-body.ensures
+    reset_up _ _ _ _ _ _ c.loop-i.invariant c.body_of-line.ensures c.body_reset.ensures c.put_body.ensures
 
 pub returns : goal.returns
 returns c =

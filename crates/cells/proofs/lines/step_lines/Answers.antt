@@ -5,13 +5,13 @@ use Rattle.cells.proofs.lines.step_lines.Goals as goal
 
 pub loop-i-preserved : goal.loop-i-preserved
 loop-i-preserved c =
-    drive_down c.loop-i.i c.loop-i.cells c.drive-devices.new.cells c.loop-i-test.true c.drive-devices.ensures ∙ c.loop-i.invariant
+    drive_down c.loop-i.i c.loop-i.cells c.drive_devices.new.cells c.loop-i-test.true c.drive_devices.ensures ∙ c.loop-i.invariant
 
 pub loop-k-init : goal.loop-k-init
 loop-k-init c = answer_start _
 
 pub loop-k-preserved : goal.loop-k-preserved
-loop-k-preserved c = answer_up _ _ _ _ c.loop-k.invariant c.answer-devices.ensures
+loop-k-preserved c = answer_up _ _ _ _ c.loop-k.invariant c.answer_devices.ensures
 
 pub returns : goal.returns
 returns c =

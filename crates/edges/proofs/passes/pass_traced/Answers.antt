@@ -9,14 +9,14 @@ loop-i-init c = drives_start _ _ _ _
 
 pub loop-i-preserved : goal.loop-i-preserved
 loop-i-preserved c =
-    drives_more _ _ _ _ _ _ _ _ _ c.loop-i-test.true c.loop-i.invariant c.drive-traced-p.ensures.cells c.drive-traced-p.ensures.bytes
+    drives_more _ _ _ _ _ _ _ _ _ c.loop-i-test.true c.loop-i.invariant c.drive_traced-p.ensures.cells c.drive_traced-p.ensures.bytes
 
 pub loop-k-init : goal.loop-k-init
 loop-k-init c = (answer_start _, answers_start _ _ _)
 
 pub loop-k-preserved : goal.loop-k-preserved
 loop-k-preserved c =
-    let a = c.answer-traced-p.ensures in
+    let a = c.answer_traced-p.ensures in
     (answer_up _ _ _ _ c.loop-k.invariant.0 a.cells, answers_more _ _ _ _ _ _ _ c.loop-k.invariant.0 c.loop-k.invariant.1 a.bytes)
 
 pub returns : goal.returns

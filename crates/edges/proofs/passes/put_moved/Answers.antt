@@ -8,4 +8,4 @@ returns-then-number c =
 
 pub returns : goal.returns
 returns c =
-    moved_one _ _ _ _ c.args.before c.args.phase (λ e. c.if-number.false (c.number.ensures ∙ (e ∙ sym c.number-2.ensures))) c.put-edge.ensures
+    moved_one _ _ _ _ c.args.before c.args.phase (λ e. c.if-number.false (c.number.ensures ∙ (e ∙ sym c.number-2.ensures))) c.put_edge.ensures

@@ -7,22 +7,22 @@ use Rattle.edges.proofs.told.put_ending.Goals as goal
 pub returns-then-n-eq0 : goal.returns-then-n-eq0
 returns-then-n-eq0 c = ends_empty _ _ c.args.before c.args.n c.args.cells.now c.if-n-eq0.true
 
-pub returns-then-at-denied : goal.returns-then-at-denied
-returns-then-at-denied c =
+pub returns-then-at_denied : goal.returns-then-at_denied
+returns-then-at_denied c =
     ends_at _ _ c.args.before _ c.args.n c.args.cells.now (omega arith)
-    (ends_still _ c.args.tick.now c.args.before _ _ (sym c.if-at-denied.ensures))
+    (ends_still _ c.args.tick.now c.args.before _ _ (sym c.if-at_denied.ensures))
 
-pub returns-then-not-at-denied : goal.returns-then-not-at-denied
-returns-then-not-at-denied c =
+pub returns-then-not-at_denied : goal.returns-then-not-at_denied
+returns-then-not-at_denied c =
     ends_at _ _ c.args.before _ c.args.n c.args.cells.now (omega arith)
-    (ends_other _ c.args.tick.now c.args.before _ _ (sym c.if-at-denied.ensures)
-    (sym (c.if-not-at-denied.ensures ∙ ap is_denied (c.phase-in.ensures ∙ ap body_phase c.body-of-top.ensures))))
+    (ends_other _ c.args.tick.now c.args.before _ _ (sym c.if-at_denied.ensures)
+    (sym (c.if-not-at_denied.ensures ∙ ap is_denied (c.phase_in.ensures ∙ ap body_phase c.body_of-top.ensures))))
 
 pub returns : goal.returns
 returns c =
     ends_at _ _ c.args.before _ c.args.n c.args.cells.now (omega arith)
-    (ends_denied _ c.args.tick.now c.args.before _ _ _ _ _ _ (sym c.if-at-denied.ensures)
-    (sym (c.if-not-at-denied.ensures ∙ ap is_denied (c.phase-in.ensures ∙ ap body_phase c.body-of-top.ensures)))
-    (c.as-bytes.ensures ∙ c.name-of-name.ensures)
-    (c.as-bytes-2.ensures ∙ (c.leaf-of-leaf.ensures ∙ ap (leaf_name c.args.cells.now) (c.denier-in.ensures ∙ ap body_denier c.body-of-top.ensures)))
-    c.put-denied.ensures)
+    (ends_denied _ c.args.tick.now c.args.before _ _ _ _ _ _ (sym c.if-at_denied.ensures)
+    (sym (c.if-not-at_denied.ensures ∙ ap is_denied (c.phase_in.ensures ∙ ap body_phase c.body_of-top.ensures)))
+    (c.as_bytes.ensures ∙ c.name_of-name.ensures)
+    (c.as_bytes-2.ensures ∙ (c.leaf_of-leaf.ensures ∙ ap (leaf_name c.args.cells.now) (c.denier_in.ensures ∙ ap body_denier c.body_of-top.ensures)))
+    c.put_denied.ensures)

@@ -6,7 +6,7 @@ pub returns : goal.returns
 returns c =
     let e : length c.args.bytes.now ≡ c.args.at + length c.args.bytes.now - c.args.at = omega arith in
     record {
-      bytes = put_mid-paste c.args.at _ c.args.out.now c.copy-from-slice.new.self c.args.bytes.now (length c.args.bytes.now)
-          c.copy-from-slice.ensures.after e refl;
+      bytes = put_mid-paste c.args.at _ c.args.out.now c.copy_from_slice.new.self c.args.bytes.now (length c.args.bytes.now)
+          c.copy_from_slice.ensures.after e refl;
       ends = refl;
     }

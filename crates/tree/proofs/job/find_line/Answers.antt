@@ -5,11 +5,11 @@ use Rattle.tree.proofs.job.find_line.Goals as goal
 
 pub loop-i-preserved : goal.loop-i-preserved
 loop-i-preserved c =
-    named_down c.loop-i.i c.args.cells.now c.args.name.now c.loop-i-test.true (sym c.if-is-called.ensures) ∙ c.loop-i.invariant
+    named_down c.loop-i.i c.args.cells.now c.args.name.now c.loop-i-test.true (sym c.if-is_called.ensures) ∙ c.loop-i.invariant
 
-pub returns-then-is-called : goal.returns-then-is-called
-returns-then-is-called c =
-    sym (named_here c.loop-i.i c.args.cells.now c.args.name.now c.loop-i-test.true (sym c.if-is-called.ensures)) ∙ c.loop-i.invariant
+pub returns-then-is_called : goal.returns-then-is_called
+returns-then-is_called c =
+    sym (named_here c.loop-i.i c.args.cells.now c.args.name.now c.loop-i-test.true (sym c.if-is_called.ensures)) ∙ c.loop-i.invariant
 
 pub returns : goal.returns
 returns c =

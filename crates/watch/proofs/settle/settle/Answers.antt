@@ -18,10 +18,10 @@ pub loop-taken-preserved : goal.loop-taken-preserved
 loop-taken-preserved g c = (
   omega arith,
   (λ r. let old = c.loop-taken.invariant.1 r in
-      let on = c.watch-step.ensures.advanced old.0 in (
+      let on = c.watch_step.ensures.advanced old.0 in (
         on.still,
         λ o. (on.pending.some_left o, omega (arith, on.fewer (cc) o, old.1 (cc))),
       )),
-  walked_more _ _ _ _ _ _ c.loop-taken.invariant.2 (cc) c.watch-step.ensures.exact,
-  steps_more _ _ _ _ c.loop-taken.invariant.3 c.watch-step.ensures.counted,
+  walked_more _ _ _ _ _ _ c.loop-taken.invariant.2 (cc) c.watch_step.ensures.exact,
+  steps_more _ _ _ _ c.loop-taken.invariant.3 c.watch_step.ensures.counted,
 )

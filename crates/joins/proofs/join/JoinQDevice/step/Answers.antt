@@ -19,10 +19,10 @@ returns g c =
     let n : c.note-self.result ≡ denier_after i.phase i.denier (ma x) (mb y) = cc in
     let p : c.decide-self.result ≡ phase_after i.phase i.denier (ma x) (mb y) = cc in
     let first = λ (o : InOrder g.A.QDevice.ordered ma g.A.QDevice.timing i.first).
-    let d = c.make-drive.ensures in
+    let d = c.make_drive.ensures in
     let s = c.step.ensures in
     subst (λ u. Went g.A.QDevice.ordered ma g.A.QDevice.timing u i.first x) ew (record {
-      mid = c.make-drive.new.device;
+      mid = c.make_drive.new.device;
       drove = d.order o;
       undriven = d.idle;
       mid_bound = d.bound;
@@ -32,10 +32,10 @@ returns g c =
       kept = s.kept (d.kept o);
     }) in
     let second = λ (o : InOrder g.B.QDevice.ordered mb g.B.QDevice.timing i.second).
-    let d = c.make-drive-2.ensures in
+    let d = c.make_drive-2.ensures in
     let s = c.step-2.ensures in
     subst (λ u. Went g.B.QDevice.ordered mb g.B.QDevice.timing u i.second y) ev (record {
-      mid = c.make-drive-2.new.device;
+      mid = c.make_drive-2.new.device;
       drove = d.order o;
       undriven = d.idle;
       mid_bound = d.bound;
@@ -49,10 +49,10 @@ returns g c =
     first second n p in
     record {
       exact = record {
-        first_mid = c.make-drive.new.device;
-        second_mid = c.make-drive-2.new.device;
-        first_driven = subst (λ u. DriveMakes g.A.QDevice.makes u i.first c.make-drive.new.device) ew c.make-drive.ensures.exact;
-        second_driven = subst (λ u. DriveMakes g.B.QDevice.makes u i.second c.make-drive-2.new.device) ev c.make-drive-2.ensures.exact;
+        first_mid = c.make_drive.new.device;
+        second_mid = c.make_drive-2.new.device;
+        first_driven = subst (λ u. DriveMakes g.A.QDevice.makes u i.first c.make_drive.new.device) ew c.make_drive.ensures.exact;
+        second_driven = subst (λ u. DriveMakes g.B.QDevice.makes u i.second c.make_drive-2.new.device) ev c.make_drive-2.ensures.exact;
         first_stepped = c.step.ensures.exact;
         second_stepped = c.step-2.ensures.exact;
         notes = n;

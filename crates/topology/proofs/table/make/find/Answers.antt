@@ -3,16 +3,16 @@ use Rattle.topology.specs.Nodes.{absent}
 use Rattle.topology.proofs.Looks.{after, found_here, found_later, found_none}
 use Rattle.topology.proofs.table.make.find.Goals as goal
 
-pub returns-then-is-named : goal.returns-then-is-named
-returns-then-is-named c =
+pub returns-then-is_named : goal.returns-then-is_named
+returns-then-is_named c =
     record {
-      value = sym (found_here c.args.sofar.now c.args.w.now c.loop-i.i absent (omega arith) (sym c.if-is-named.ensures)) ∙ c.loop-i.invariant;
+      value = sym (found_here c.args.sofar.now c.args.w.now c.loop-i.i absent (omega arith) (sym c.if-is_named.ensures)) ∙ c.loop-i.invariant;
       bound = omega arith;
     }
 
 pub loop-i-preserved : goal.loop-i-preserved
 loop-i-preserved c =
-    sym (found_later c.args.sofar.now c.args.w.now c.loop-i.i absent (omega arith) (sym c.if-is-named.ensures)) ∙ c.loop-i.invariant
+    sym (found_later c.args.sofar.now c.args.w.now c.loop-i.i absent (omega arith) (sym c.if-is_named.ensures)) ∙ c.loop-i.invariant
 
 after_zero : (o : Option ℕ) → after 0 o ≡ o
 after_zero None = refl

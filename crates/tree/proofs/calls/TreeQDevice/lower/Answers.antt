@@ -10,7 +10,7 @@ returns-in-Run c =
     let t = c.args.self.now in
     let e : (tree_means t).phase ≡ Run = sym c.in-Run.ensures in
     let a = ap lower_answer e in
-    let m = lower_made t c.drive-top.new.self (ap is_ok a) c.drive-top.ensures in
+    let m = lower_made t c.drive_top.new.self (ap is_ok a) c.drive_top.ensures in
     record {
       answer = sym a;
       exact = m;

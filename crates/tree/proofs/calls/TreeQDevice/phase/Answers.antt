@@ -9,4 +9,4 @@ pub returns-else-n-eq0 : goal.returns-else-n-eq0
 returns-else-n-eq0 c =
     let t = c.args.self.now in
     let h : 0 < t.bare.count = omega arith in
-    c.phase-in.ensures ∙ (ap body_phase c.body.ensures ∙ top_phase t.bare.count t.own (lines_of t) (wired_of t) h)
+    c.phase_in.ensures ∙ (ap body_phase c.body.ensures ∙ top_phase t.bare.count t.own (lines_of t) (wired_of t) h)

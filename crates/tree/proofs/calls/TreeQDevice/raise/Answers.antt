@@ -6,7 +6,7 @@ pub returns-in-Stopped : goal.returns-in-Stopped
 returns-in-Stopped c =
     let t = c.args.self.now in
     let a = raise_ok c.phase.result _ c.phase.ensures c.in-Stopped.is in
-    let m = raise_made t c.drive-top.new.self (ap is_ok a) c.drive-top.ensures in
+    let m = raise_made t c.drive_top.new.self (ap is_ok a) c.drive_top.ensures in
     record {
       answer = sym a;
       exact = m;

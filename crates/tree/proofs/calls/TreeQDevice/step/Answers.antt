@@ -15,7 +15,7 @@ invariant-of-self c =
 
 pub returns : goal.returns
 returns c =
-    let m = tree_made call.Step c.args.self.now _ c.step.ensures.count c.step.ensures.cells c.own-next-self.ensures c.step.ensures.keeps in
+    let m = tree_made call.Step c.args.self.now _ c.step.ensures.count c.step.ensures.cells c.own_next-self.ensures c.step.ensures.keeps in
     record {
       exact = m;
       order = λ o. (step_order _ _ m o).0;

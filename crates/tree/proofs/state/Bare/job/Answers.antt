@@ -7,7 +7,7 @@ pub returns-in-Some : goal.returns-in-Some
 returns-in-Some c =
     let cs = c.args.self.now.cells.now in
     let n = c.args.n in
-    let b = c.body-job-body.ensures in
+    let b = c.body_job-body.ensures in
     record {
       answer = b.1 ∙ (ap (λ x. body_answer x n) c.body.ensures ∙ ap (λ o. job_answer o cs n) c.in-Some.ensures);
       cells = c.put.ensures.cells

@@ -29,9 +29,9 @@ returns-in-Err c =
     let told = c.in-Err.ensures in
     record {
       told = ap load_answer told.exact;
-      lines = refused_lines _ c.in-Err.fault _ (sym told.exact) c.blank-all.ensures;
+      lines = refused_lines _ c.in-Err.fault _ (sym told.exact) c.blank_all.ensures;
       wired = none_wired _;
       fresh = λ i h. let z : ⊥ = omega arith in elim z [ ];
-      long = c.blank-all.auto.cells;
+      long = c.blank_all.auto.cells;
       keeps = refl;
     }

@@ -7,4 +7,4 @@ use Rattle.tree.proofs.state.Tree.is_pile.Goals as goal
 pub returns-then-n-gt0 : goal.returns-then-n-gt0
 returns-then-n-gt0 c =
     let t = c.args.self.now in
-    c.is-joining.ensures ∙ (ap is_join c.body.ensures ∙ top_joined t.bare.count t.own (lines_of t) c.if-n-gt0.true)
+    c.is_joining.ensures ∙ (ap is_join c.body.ensures ∙ top_joined t.bare.count t.own (lines_of t) c.if-n-gt0.true)

@@ -18,4 +18,4 @@ unfolding name_of
 stored w ys m n e q p = λ i. record { bytes = (p ∙ front w m (q ∙ e)) i ++ zeros w m (q ∙ e) i; len = e i }
 
 pub returns : goal.returns
-returns c = stored c.args.w.now c.copy-from-slice.new.self (c.min-n.result - 0) c.min-n.result c.min-n.ensures (sub-zero _) c.copy-from-slice.ensures.after
+returns c = stored c.args.w.now c.copy_from_slice.new.self (c.min-n.result - 0) c.min-n.result c.min-n.ensures (sub-zero _) c.copy_from_slice.ensures.after

@@ -30,27 +30,27 @@ loop-n-init c = sofar_start c.args.text.now c.args.lines _ refl c.requires.all
 
 pub returns-in-Err : goal.returns-in-Err
 returns-in-Err c =
-    sym (ap (λ r. and_then r tree) (sofar_stop c.args.text.now c.args.lines c.loop-n.n c.loop-n.nodes c.loop-n.joined c.loop-n.rest.now c.split-line.result.0.now c.split-line.result.1.now c.loop-n.invariant c.requires.few (omega arith) c.split-line.ensures.line c.split-line.ensures.rest c.in-Err.flaw
-    (ap (λ k. node_at (take k c.loop-n.nodes) c.split-line.result.0.now) (sym (sub-zero _)) ∙ sym c.in-Err.ensures)))
+    sym (ap (λ r. and_then r tree) (sofar_stop c.args.text.now c.args.lines c.loop-n.n c.loop-n.nodes c.loop-n.joined c.loop-n.rest.now c.split_line.result.0.now c.split_line.result.1.now c.loop-n.invariant c.requires.few (omega arith) c.split_line.ensures.line c.split_line.ensures.rest c.in-Err.flaw
+    (ap (λ k. node_at (take k c.loop-n.nodes) c.split_line.result.0.now) (sym (sub-zero _)) ∙ sym c.in-Err.ensures)))
 
 pub mark-requires : goal.mark-requires
 mark-requires c =
     below_weaker c.in-Ok.node.part (length (take (c.loop-n.n - 0) c.loop-n.nodes)) (length c.loop-n.joined)
     (let e = length-take-le (c.loop-n.n - 0) c.loop-n.nodes (omega (arith, c.loop-n.invariant.room)) in omega (arith, c.loop-n.invariant.space))
-    (node_below (take (c.loop-n.n - 0) c.loop-n.nodes) c.split-line.result.0.now c.in-Ok.node (sym c.in-Ok.ensures))
+    (node_below (take (c.loop-n.n - 0) c.loop-n.nodes) c.split_line.result.0.now c.in-Ok.node (sym c.in-Ok.ensures))
 
 pub loop-n-preserved : goal.loop-n-preserved
 loop-n-preserved c =
-    subst (λ ms. Sofar c.args.text.now c.args.lines (c.loop-n.n + 1) (set c.loop-n.nodes c.loop-n.n c.in-Ok.node) ms c.split-line.result.1.now) (sym c.mark.ensures)
-    (sofar_more c.args.text.now c.args.lines c.loop-n.n c.loop-n.nodes c.loop-n.joined c.loop-n.rest.now c.split-line.result.0.now c.split-line.result.1.now c.loop-n.invariant c.requires.few (omega arith) c.split-line.ensures.line c.split-line.ensures.rest c.in-Ok.node
-    (ap (λ k. node_at (take k c.loop-n.nodes) c.split-line.result.0.now) (sym (sub-zero _)) ∙ sym c.in-Ok.ensures))
+    subst (λ ms. Sofar c.args.text.now c.args.lines (c.loop-n.n + 1) (set c.loop-n.nodes c.loop-n.n c.in-Ok.node) ms c.split_line.result.1.now) (sym c.mark.ensures)
+    (sofar_more c.args.text.now c.args.lines c.loop-n.n c.loop-n.nodes c.loop-n.joined c.loop-n.rest.now c.split_line.result.0.now c.split_line.result.1.now c.loop-n.invariant c.requires.few (omega arith) c.split_line.ensures.line c.split_line.ensures.rest c.in-Ok.node
+    (ap (λ k. node_at (take k c.loop-n.nodes) c.split_line.result.0.now) (sym (sub-zero _)) ∙ sym c.in-Ok.ensures))
 
 pub returns-in-Some : goal.returns-in-Some
 returns-in-Some c =
     sym (ends c.args.text.now c.args.lines c.loop-n.n c.loop-n.nodes c.loop-n.joined c.loop-n.rest.now c.loop-n.invariant c.requires.few (omega arith) (Some c.in-Some.k)
-    (c.in-Some.ensures.value ∙ ap (λ m. loose m 0 (λ k. get_or c.loop-n.joined k false)) c.saturating-sub.ensures))
+    (c.in-Some.ensures.value ∙ ap (λ m. loose m 0 (λ k. get_or c.loop-n.joined k false)) c.saturating_sub.ensures))
 
 pub returns-in-None : goal.returns-in-None
 returns-in-None c =
     sym (ends c.args.text.now c.args.lines c.loop-n.n c.loop-n.nodes c.loop-n.joined c.loop-n.rest.now c.loop-n.invariant c.requires.few (omega arith) None
-    (c.in-None.ensures.value ∙ ap (λ m. loose m 0 (λ k. get_or c.loop-n.joined k false)) c.saturating-sub.ensures))
+    (c.in-None.ensures.value ∙ ap (λ m. loose m 0 (λ k. get_or c.loop-n.joined k false)) c.saturating_sub.ensures))
