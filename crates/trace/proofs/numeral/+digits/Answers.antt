@@ -37,8 +37,8 @@ bounds-out-k t c =
     let e = long c.args.n c.if-n-lt10.false (omega arith) in
     omega arith
 
-pub overflow-add-result : goal.overflow-add-result
-overflow-add-result t c =
+pub overflow_add-result : goal.overflow_add-result
+overflow_add-result t c =
     let e = long c.args.n c.if-n-lt10.false (omega arith) in
     omega arith
 

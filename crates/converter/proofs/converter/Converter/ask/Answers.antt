@@ -13,8 +13,8 @@ returns-in-Stable-default g c = record {
       (Ok tt) (moved c.args.self.now Request c.args.state None) (search rules) (search rules);
 }
 
-pub returns-in-default : goal.returns-in-default
-returns-in-default g c = record {
+pub returns-in_default : goal.returns-in_default
+returns-in_default g c = record {
   answer = search rules;
   exact = search rules;
   linked = ask_links g.D.QDevice.ordered g.D.QDevice.means g.D.QDevice.timing c.args.self.now c.args.state
