@@ -7,8 +7,8 @@ use Rattle.tree.proofs.Held.{wired_of, held}
 use Rattle.tree.proofs.Tops.{tree_made, reset_order}
 use Rattle.tree.proofs.calls.TreeQDevice.reset.Goals as goal
 
-pub invariant-of-self : goal.invariant-of-self
-invariant-of-self c =
+pub invariant_of-self : goal.invariant_of-self
+invariant_of-self c =
     let t = c.args.self.now in
     held _ t.bare.count _ (reset_to t.bare.count (lines_of t)) c.reset.ensures.count c.reset.ensures.cells
     (reset_wired t.bare.count (lines_of t) _ (reset_all t.bare.count (lines_of t) t.fits) (wired_of t))

@@ -7,8 +7,8 @@ use Rattle.tree.proofs.Held.{wired_of, held}
 use Rattle.tree.proofs.Tops.{tree_made, step_order}
 use Rattle.tree.proofs.calls.TreeQDevice.step.Goals as goal
 
-pub invariant-of-self : goal.invariant-of-self
-invariant-of-self c =
+pub invariant_of-self : goal.invariant_of-self
+invariant_of-self c =
     let t = c.args.self.now in
     held _ t.bare.count _ (stepped t.bare.count (lines_of t)) c.step.ensures.count c.step.ensures.cells
     (stepped_wired t.bare.count (lines_of t) (wired_of t))

@@ -5,8 +5,8 @@ use Rattle.tree.proofs.Held.{wired_of, held}
 use Rattle.tree.proofs.Tops.{top_is_driven, driven_made, top_driven_wired, own_some}
 use Rattle.tree.proofs.state.Tree.drive_top.Goals as goal
 
-pub invariant-of-self-else-n-eq0 : goal.invariant-of-self-else-n-eq0
-invariant-of-self-else-n-eq0 c =
+pub invariant_of-self-else-n-eq0 : goal.invariant_of-self-else-n-eq0
+invariant_of-self-else-n-eq0 c =
     let t = c.args.self.now in
     let h : 0 < t.bare.count = omega arith in
     held _ t.bare.count _ (top_driven c.args.drive t.bare.count (lines_of t)) c.drive.ensures.count

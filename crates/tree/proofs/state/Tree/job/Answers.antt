@@ -4,8 +4,8 @@ use Rattle.tree.proofs.Held.{wired_of, held}
 use Rattle.tree.proofs.Works.{job_cells_wired, trees_same}
 use Rattle.tree.proofs.state.Tree.job.Goals as goal
 
-pub invariant-of-self : goal.invariant-of-self
-invariant-of-self c =
+pub invariant_of-self : goal.invariant_of-self
+invariant_of-self c =
     let t = c.args.self.now in
     held _ t.bare.count _ _ c.job.ensures.count c.job.ensures.cells
     (job_cells_wired t.bare.count (lines_of t) c.args.name.now c.args.n (wired_of t))

@@ -4,13 +4,13 @@ use Rattle.tree.proofs.Piles.{tree_fit, tree_begun}
 use Rattle.tree.proofs.Tops.{in_order, fresh_nested, fresh_reset}
 use Rattle.tree.proofs.state.Tree.load.Goals as goal
 
-pub invariant-of-self : goal.invariant-of-self
-invariant-of-self c = held _ _ _ _ refl refl c.load_answer.ensures.wired
+pub invariant_of-self : goal.invariant_of-self
+invariant_of-self c = held _ _ _ _ refl refl c.load-answer.ensures.wired
 
 pub returns : goal.returns
 returns c =
-    let b = c.load_answer.ensures in
-    let fresh = fresh_nested c.load_answer.new.self.count _ b.wired b.fresh in
+    let b = c.load-answer.ensures in
+    let fresh = fresh_nested c.load-answer.new.self.count _ b.wired b.fresh in
     record {
       told = b.told;
       lines = b.lines;
