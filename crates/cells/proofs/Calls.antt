@@ -1,7 +1,6 @@
 -- The other calls on the cells: a drive of the top, a reset of all lines, jobs for a leaf; and the wiring, which stays.
 use Rattle.std.proofs.Common.{◌≡◌, ℕ, zero, suc, ◌<◌, ◌≤◌, Bool, true, false, not, ◌||◌, eqb, ◌⊎◌, List, length, sym, refl, ap, ◌∙◌, subst, inl, inr, arith}
 use Rattle.std.proofs.lemmas.Bool.{cases_eq, both_ways, or_cases, or_left, or_right, or_from, and_parts, and_from, eqb-true}
-use Rattle.leaves.specs.declared.work.Work.{Work}
 use Rattle.joins.specs.declared.rules.Drive.{Drive}
 use Rattle.cells.specs.declared.cell.Body.{Body}
 use Rattle.cells.specs.declared.cell.Body.TheVariants as body

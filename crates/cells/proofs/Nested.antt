@@ -1,5 +1,5 @@
 -- A nested tree is a device: its joins are the library's joins over nested devices, so the law of a join is cited, not shown again.
-use Rattle.std.proofs.Common.{◌≡◌, ℕ, ◌-◌, None, Option, refl, arith}
+use Rattle.std.proofs.Common.{◌≡◌, ℕ, None, Option, refl, arith}
 use Rattle.std.proofs.lemmas.Bool.Decides.{nat_tests}
 use Rattle.channel.specs.declared.phase.Phase.{Phase}
 use Rattle.channel.specs.declared.phase.Phase.TheVariants.{Run, Request, Stopped, Exit, Denied, Continue}

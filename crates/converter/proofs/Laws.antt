@@ -1,21 +1,19 @@
 -- The laws of a converter over one device, from the same laws of a driven device that the joins cite.
-use Rattle.std.proofs.Common.{◌≡◌, ℕ, ◌+◌, ◌*◌, ◌<◌, ◌≤◌, Bool, true, false, cond, eqb, ◌⊎◌, List, [], ◌∷◌, is_some, Some, None, Option, sym, refl, ap, ◌∙◌, subst, inl, inr, arith}
+use Rattle.std.proofs.Common.{◌≡◌, ℕ, ◌*◌, ◌<◌, true, ◌⊎◌, List, [], ◌∷◌, is_some, Some, None, Option, sym, refl, ap, ◌∙◌, subst, inl, inr, arith}
 use Rattle.channel.specs.declared.phase.Phase.{Phase}
 use Rattle.channel.specs.declared.phase.Phase.TheVariants.{Run, Request, Stopped, Exit, Denied, Continue}
 use Rattle.channel.specs.declared.pphase.PPhase.{PPhase}
 use Rattle.channel.specs.declared.pphase.PPhase.TheVariants as p
 use Rattle.channel.specs.PPhases.{p_number}
-use Rattle.channel.specs.Means.{Leaf, Means, Each, tags, leftmost, Has, Waking, Sound}
+use Rattle.channel.specs.Means.{Leaf, Means, Each, leftmost, Waking, Sound}
 use Rattle.channel.specs.Calls.{or_leftmost}
 use Rattle.channel.specs.Timing.{Timing, Timely}
-use Rattle.pile.specs.Views.{Power, stop_state, run_state, End, p_end, number, shows, stopped, running, denied, AtRequest, AtDenied, Opened, View, Truly, InTime}
-use Rattle.pile.specs.Calls.{StopAsked, BackAsked, Ended, Ticks, Runs}
-use Rattle.joins.specs.declared.rules.Drive.{Drive}
-use Rattle.joins.specs.declared.rules.Drive.TheVariants.{Nothing, Lower, Raise}
-use Rattle.joins.specs.Rules.{heard, or_else, lower_run, raise_stopped, raise_denied, distributor_drive}
-use Rattle.joins.specs.Turns.{Turned, driven}
-use Rattle.joins.specs.Together.{Asking, Firm}
-use Rattle.joins.specs.Bounds.{answer_in, return_in}
+use Rattle.pile.specs.Views.{Power, p_end, shows, denied, Truly, InTime}
+use Rattle.pile.specs.Calls.{StopAsked, Ended, Ticks, Runs}
+use Rattle.joins.specs.declared.rules.Drive.TheVariants.{Nothing}
+use Rattle.joins.specs.Rules.{heard, lower_run, raise_stopped, raise_denied}
+use Rattle.joins.specs.Turns.{Turned}
+use Rattle.joins.specs.Together.{Firm}
 use Rattle.joins.proofs.Order.{May, denied_may, asked, stays_firm, stays_waking, stays_still, Still, sound_at, run_none, stopped_none, run_each, turned_tags}
 use Rattle.joins.proofs.Order as join
 use Rattle.joins.proofs.Pace.{Paced, same_bound, asked_gains, backs_out, wakes, moves}
@@ -24,7 +22,7 @@ use Rattle.converter.specs.declared.rules.Mode.TheVariants as mode
 use Rattle.converter.specs.declared.rules.Task.{Task}
 use Rattle.converter.specs.declared.rules.Task.TheVariants.{Hold, Same, Stopping, Waking as ToWake}
 use Rattle.converter.specs.Rules.{change, task_of, task_drive, task_note, answered, next_phase}
-use Rattle.converter.specs.Over.{power, converter_view, RestAt, StoppingAt, Asked, Over, stop_left, task_left, phase_left, converter_timing}
+use Rattle.converter.specs.Over.{power, converter_view, RestAt, StoppingAt, Asked, Over, task_left, phase_left, converter_timing}
 
 -- the mode of the state after a step
 abbrev pub next_mode : PPhase → PPhase → Mode → Mode → Mode

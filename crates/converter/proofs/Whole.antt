@@ -1,24 +1,22 @@
 -- The calls of a converter over any device, from the laws over meanings.
-use Rattle.std.proofs.Common.{◌≡◌, ℕ, Bool, true, false, cond, is_some, is_ok, Some, None, Ok, Err, Option, Result, sym, refl, ap, ◌∙◌, subst, arith}
+use Rattle.std.proofs.Common.{◌≡◌, ℕ, Bool, true, false, cond, is_some, is_ok, None, Result, sym, refl, ap, ◌∙◌, subst, arith}
 use Rattle.channel.specs.declared.phase.Phase.TheVariants.{Stopped}
 use Rattle.channel.specs.declared.pphase.PPhase.{PPhase}
 use Rattle.channel.specs.declared.pphase.PPhase.TheVariants as p
 use Rattle.channel.specs.Means.{Means, Each}
 use Rattle.channel.specs.Timing.{Timing}
-use Rattle.channel.specs.Calls.{Reset}
 use Rattle.channel.specs.Device.{InOrder}
-use Rattle.pile.specs.Views.{View, Begun, p_end, shows, Opened}
-use Rattle.pile.specs.Calls.{Kind, stop, back, tick, Called, Timed, StopAsked, BackAsked, Ticks, Runs}
+use Rattle.pile.specs.Views.{Begun, p_end, Opened}
+use Rattle.pile.specs.Calls.{Kind, stop, back, tick, StopAsked, Ticks, Runs}
 use Rattle.pile.specs.Runs.{Fit, Linked}
-use Rattle.joins.specs.declared.rules.Drive.{Drive}
 use Rattle.joins.specs.Rules.{heard}
 use Rattle.joins.proofs.Whole.{Went, went_turned, went_paced}
 use Rattle.converter.specs.declared.rules.Mode.{Mode}
 use Rattle.converter.specs.declared.rules.Mode.TheVariants as mode
 use Rattle.converter.specs.declared.converter.Converter.{Converter}
 use Rattle.converter.specs.declared.converter.PRefusal.{PRefusal}
-use Rattle.converter.specs.Rules.{mode_of, task_of, task_drive, task_note, next_phase, next_state, reached}
-use Rattle.converter.specs.Over.{power, Over, RestAt, converter_view, converter_timing}
+use Rattle.converter.specs.Rules.{mode_of, task_of, task_drive, task_note, next_phase, next_state}
+use Rattle.converter.specs.Over.{power, Over, RestAt, converter_view}
 use Rattle.converter.specs.Converter.{ask_answer, used_answer, drop_answer, view_of, time_of, ConverterOrder, moved, after_ask, drop_at}
 use Rattle.converter.proofs.Laws.{next_mode, keeps_over, ticks, truly, in_time, runs, stays, asks_over, asks}
 

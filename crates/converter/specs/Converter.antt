@@ -1,5 +1,5 @@
 -- A converter over any device: what is seen of it, when it is in order, and what its calls make of it.
-use Rattle.std.specs.Prelude.{◌≡◌, ℕ, Bool, true, cond, is_some, is_ok, None, Ok, Err, Option, Result}
+use Rattle.std.specs.Prelude.{◌≡◌, ℕ, cond, is_some, is_ok, None, Ok, Err, Option, Result}
 use Rattle.channel.specs.declared.pphase.PPhase.{PPhase}
 use Rattle.channel.specs.declared.pphase.PPhase.TheVariants as p
 use Rattle.channel.specs.declared.device.Call.{Call}
@@ -8,7 +8,6 @@ use Rattle.channel.specs.Means.{Means}
 use Rattle.channel.specs.Timing.{Timing}
 use Rattle.channel.specs.Device.{InOrder}
 use Rattle.pile.specs.Views.{View}
-use Rattle.pile.specs.Calls.{Kind, stop, back, tick}
 use Rattle.joins.specs.Rules.{heard, DriveMakes}
 use Rattle.converter.specs.declared.rules.Mode.{Mode}
 use Rattle.converter.specs.declared.rules.Mode.TheVariants as mode

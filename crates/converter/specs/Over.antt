@@ -12,7 +12,7 @@ use Rattle.converter.specs.declared.rules.Mode.{Mode}
 use Rattle.converter.specs.declared.rules.Mode.TheVariants as mode
 use Rattle.converter.specs.declared.rules.Task.{Task}
 use Rattle.converter.specs.declared.rules.Task.TheVariants.{Hold, Same, Stopping, Waking}
-use Rattle.converter.specs.Rules.{change, task_of}
+use Rattle.converter.specs.Rules.{task_of}
 
 abbrev pub power : Mode → Power
 power mode.Unused = stop_state

@@ -1,5 +1,5 @@
 -- The rules of a converter: power states, what a step is for, drives, notes and decisions.
-use Rattle.std.specs.Prelude.{◌≡◌, ℕ, Bool, true, false, cond, Some, None, Option, ◌==◌}
+use Rattle.std.specs.Prelude.{ℕ, Bool, true, false, cond, Option, ◌==◌}
 use Rattle.channel.specs.declared.phase.Phase.{Phase}
 use Rattle.channel.specs.declared.phase.Phase.TheVariants.{Run, Stopped}
 use Rattle.channel.specs.declared.pphase.PPhase.{PPhase}

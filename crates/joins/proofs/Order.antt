@@ -1,18 +1,18 @@
 -- The law of a join over phases, leaves and deniers: whatever its devices answer, a step of the join
 -- is a step of a device in order. One law for distributor and sequencer, since a sequencer drives
 -- a device as a distributor does, or not at all.
-use Rattle.std.proofs.Common.{◌≡◌, ℕ, Bool, true, false, cond, eqb, ◌⊎◌, List, [], ◌∷◌, ◌++◌, is_some, Some, None, Option, sym, refl, ap, ◌∙◌, subst, inl, inr, arith}
+use Rattle.std.proofs.Common.{◌≡◌, ℕ, Bool, true, false, cond, eqb, ◌⊎◌, List, ◌++◌, is_some, Some, None, Option, sym, refl, ap, ◌∙◌, subst, inl, inr, arith}
 use Rattle.channel.specs.declared.phase.Phase.{Phase}
 use Rattle.channel.specs.declared.phase.Phase.TheVariants.{Run, Request, Stopped, Exit, Denied, Continue}
-use Rattle.channel.specs.Means.{Leaf, Means, Each, tags, leftmost, Has, Waking, Denying, Continuing, Agrees, Sound}
-use Rattle.channel.specs.Calls.{LowerDone, RaiseDone, Stepped, StepTo, Open, noted, or_leftmost}
+use Rattle.channel.specs.Means.{Means, Each, tags, leftmost, Has, Waking, Denying, Continuing, Agrees, Sound}
+use Rattle.channel.specs.Calls.{Stepped, StepTo, Open, noted}
 use Rattle.joins.specs.declared.rules.Kind.{Kind}
 use Rattle.joins.specs.declared.rules.Kind.TheVariants.{Distributor, Sequencer}
 use Rattle.joins.specs.declared.rules.Drive.{Drive}
 use Rattle.joins.specs.declared.rules.Drive.TheVariants.{Nothing, Lower, Raise}
-use Rattle.joins.specs.Rules.{first_drive, second_drive, distributor_drive, sequencer_first, sequencer_second, while_at, lower_run, raise_stopped, raise_denied, raise_held, heard, or_else, noted_from, decided, if_both}
+use Rattle.joins.specs.Rules.{first_drive, second_drive, distributor_drive, sequencer_first, sequencer_second, while_at, raise_denied, heard, or_else, decided}
 use Rattle.joins.specs.Turns.{Drove, Turned, driven}
-use Rattle.joins.specs.Together.{joined, Asking, Firm, Both, NotBothRun, Holding, Together, InSequence, denier_after, phase_after}
+use Rattle.joins.specs.Together.{joined, Asking, Firm, Both, Together, InSequence, denier_after, phase_after}
 use Rattle.joins.proofs.Leaves.{each_++, each_map, tags-++, leftmost-++, none_denied}
 
 -- a drive that a distributor gives, or none

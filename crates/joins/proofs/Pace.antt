@@ -1,17 +1,17 @@
 -- The law of a join over bounds and steps left: a step that keeps the join's open phase lowers them.
-use Rattle.std.proofs.Common.{◌≡◌, ℕ, ◌+◌, ◌*◌, ◌<◌, ◌≤◌, max, Bool, true, false, cond, eqb, ◌⊎◌, is_some, Some, None, Option, sym, refl, ap, ◌∙◌, subst, inl, inr, arith}
+use Rattle.std.proofs.Common.{◌≡◌, ℕ, ◌+◌, ◌*◌, ◌<◌, ◌≤◌, Bool, true, false, ◌⊎◌, is_some, Some, None, Option, refl, ap, ◌∙◌, arith}
 use Rattle.channel.specs.declared.phase.Phase.{Phase}
 use Rattle.channel.specs.declared.phase.Phase.TheVariants.{Run, Request, Stopped, Exit, Denied, Continue}
-use Rattle.channel.specs.Means.{Waking, Has}
+use Rattle.channel.specs.Means.{Waking}
 use Rattle.channel.specs.Calls.{StepTo, Open}
 use Rattle.channel.specs.Timing.{Timing, Timely, Ticked}
 use Rattle.joins.specs.declared.rules.Kind.{Kind}
 use Rattle.joins.specs.declared.rules.Kind.TheVariants.{Distributor, Sequencer}
 use Rattle.joins.specs.declared.rules.Drive.{Drive}
 use Rattle.joins.specs.declared.rules.Drive.TheVariants.{Nothing, Lower, Raise}
-use Rattle.joins.specs.Rules.{first_drive, second_drive, distributor_drive, sequencer_first, sequencer_second, while_at, lower_run, raise_stopped, raise_denied, raise_held, decided, if_both}
+use Rattle.joins.specs.Rules.{first_drive, second_drive, distributor_drive, decided}
 use Rattle.joins.specs.Turns.{driven}
-use Rattle.joins.specs.Bounds.{combine, answer_in, return_in, request_left, join_left, join_timing}
+use Rattle.joins.specs.Bounds.{combine, answer_in, return_in, join_left, join_timing}
 use Rattle.joins.proofs.Order.{May, first_may, second_may}
 
 -- one step of a device below a join, from phase p to phase q, with the timing before, between and after

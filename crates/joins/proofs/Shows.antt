@@ -1,10 +1,10 @@
 -- What a join shows is so.
-use Rattle.std.proofs.Common.{◌≡◌, ℕ, ◌≤◌, ◌⊎◌, None, Option, ap, subst, inl, inr, arith}
+use Rattle.std.proofs.Common.{◌≡◌, ℕ, None, Option, ap, subst, arith}
 use Rattle.channel.specs.declared.phase.Phase.{Phase}
 use Rattle.channel.specs.declared.phase.Phase.TheVariants.{Run, Request, Stopped, Exit, Denied, Continue}
 use Rattle.channel.specs.Means.{Means, Each, Sound}
 use Rattle.channel.specs.Timing.{Timing, Timely}
-use Rattle.pile.specs.Views.{q_end, shows, stopped, running, denied, Opened, Truly, InTime, Begun}
+use Rattle.pile.specs.Views.{q_end, shows, Opened, Truly, InTime, Begun}
 use Rattle.pile.specs.OfQ.{q_view}
 use Rattle.pile.specs.Runs.{Fit}
 use Rattle.joins.specs.declared.rules.Kind.{Kind}

@@ -1,9 +1,9 @@
 -- The calls of a join over any two devices, from the laws over meanings.
-use Rattle.std.proofs.Common.{◌≡◌, ℕ, Bool, true, false, ◌⊎◌, ◌++◌, is_some, Some, None, Option, sym, refl, ap, ◌∙◌, subst, inl, inr, arith}
+use Rattle.std.proofs.Common.{◌≡◌, ℕ, is_some, Some, None, Option, sym, refl, ap, ◌∙◌, subst, inl, inr, arith}
 use Rattle.channel.specs.declared.phase.Phase.{Phase}
 use Rattle.channel.specs.declared.phase.Phase.TheVariants.{Run, Request, Stopped, Exit, Denied, Continue}
-use Rattle.channel.specs.Means.{Means, Each, tags, Has, Sound, Lowering, Waking}
-use Rattle.channel.specs.Calls.{LowerDone, RaiseDone, LoweredAt, Lowered, RaisedAt, Raised, Stepped, Reset}
+use Rattle.channel.specs.Means.{Means, Has, Sound, Lowering}
+use Rattle.channel.specs.Calls.{LowerDone, LoweredAt, Lowered, RaisedAt, Raised, Stepped, Reset}
 use Rattle.channel.specs.Timing.{Timing, Timely, Ticked}
 use Rattle.channel.specs.Device.{InOrder}
 use Rattle.joins.specs.declared.rules.Kind.{Kind}
@@ -11,13 +11,12 @@ use Rattle.joins.specs.declared.rules.Kind.TheVariants.{Distributor, Sequencer}
 use Rattle.joins.specs.declared.rules.Drive.{Drive}
 use Rattle.joins.specs.declared.rules.Drive.TheVariants.{Nothing}
 use Rattle.joins.specs.declared.join.Join.{Join}
-use Rattle.joins.specs.Rules.{first_drive, second_drive, decided}
-use Rattle.joins.specs.Turns.{Drove, Turned, driven}
-use Rattle.joins.specs.Together.{joined, Asking, Firm, Both, Holding, Together, InSequence, denier_after, phase_after}
-use Rattle.joins.specs.Bounds.{join_timing}
+use Rattle.joins.specs.Rules.{first_drive, second_drive}
+use Rattle.joins.specs.Turns.{Drove, Turned}
+use Rattle.joins.specs.Together.{joined, Both, Together, InSequence, denier_after, phase_after}
 use Rattle.joins.specs.Join.{join_means, join_time, JoinOrder, Whole, own}
 use Rattle.joins.proofs.Leaves.{each_++, each_map, tags-++}
-use Rattle.joins.proofs.Order.{May, first_may, second_may, Pair, join_stepped, join_sound, keeps_together, keeps_sequence, turned_phase, sound_at}
+use Rattle.joins.proofs.Order.{first_may, second_may, Pair, join_stepped, join_sound, keeps_together, keeps_sequence, turned_phase, sound_at}
 use Rattle.joins.proofs.Pace.{Paced, PhasesAt, SequenceAt, Stays, join_timely, join_ticked}
 
 -- the phases that go with a join's own

@@ -5,9 +5,9 @@ use Rattle.channel.specs.declared.phase.Phase.TheVariants.{Run, Request, Stopped
 use Rattle.channel.specs.Means.{Leaf, leftmost, tag_or, Has}
 use Rattle.channel.specs.Calls.{or_leftmost}
 use Rattle.channel.specs.Timing.{Timing}
-use Rattle.pile.specs.Views.{End, View, number, AtRequest, AtDenied, Opened, Truly, InTime, Begun}
-use Rattle.pile.specs.Calls.{Kind, stop, back, tick, other, StopAsked, BackAsked, Ended, Ticks, Called, Runs, Timed}
-use Rattle.pile.specs.Runs.{Moment, Standing, Stood, or_then, earliest, Answered, Asks, one_step, last, calls_of, views, AllIn, steps, Fit, Linked, Link, Play, Kept, Every}
+use Rattle.pile.specs.Views.{End, View, number, AtRequest, AtDenied, Opened}
+use Rattle.pile.specs.Calls.{Kind, stop, back, tick, other, StopAsked, Ended, Called, Timed}
+use Rattle.pile.specs.Runs.{Moment, Standing, Stood, or_then, earliest, Answered, Asks, one_step, last, views, AllIn, steps, Fit, Play, Every}
 
 -- a leaf stands denied just where there is a leftmost one
 standing_has : (ls : List Leaf) → Standing ls → Has (leftmost ls)

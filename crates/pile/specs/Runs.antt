@@ -1,9 +1,9 @@
 -- The promise, as a law over whole runs of a pile's own calls.
-use Rattle.std.specs.Prelude.{◌≡◌, ℕ, ◌+◌, ◌<◌, Bool, true, false, ◌⊎◌, List, [], ◌∷◌, ◌++◌, Some, None, Option, ◌≢◌}
+use Rattle.std.specs.Prelude.{◌≡◌, ℕ, ◌+◌, ◌<◌, Bool, true, ◌⊎◌, List, [], ◌∷◌, ◌++◌, Some, None, Option, ◌≢◌}
 use Rattle.channel.specs.declared.phase.Phase.TheVariants.{Denied}
 use Rattle.channel.specs.Means.{Leaf, leftmost}
 use Rattle.channel.specs.Timing.{Timing}
-use Rattle.pile.specs.Views.{End, View, number, AtDenied, Truly, InTime, Begun}
+use Rattle.pile.specs.Views.{View, number, AtDenied, Truly, InTime, Begun}
 use Rattle.pile.specs.Calls.{Kind, stop, back, tick, other, Called, Timed}
 
 -- a call, whether it was accepted, and the pile after it

@@ -1,9 +1,6 @@
 -- The promise at piles of named leaves, with every ghost member filled in.
 use Rattle.std.specs.Prelude.{List}
-use Rattle.channel.specs.declared.device.Call.{Call}
 use Rattle.channel.specs.declared.device.Call.TheVariants.{Restart}
-use Rattle.channel.specs.Means.{Means}
-use Rattle.channel.specs.Timing.{Timing}
 use Rattle.leaves.specs.declared.timed.Timed.{Timed}
 use Rattle.leaves.specs.declared.work.Work.{Work}
 use Rattle.leaves.specs.Timed.{timed_means, timed_timing, TimedOrder, timed_makes}

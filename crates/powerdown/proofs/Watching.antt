@@ -1,16 +1,14 @@
 -- Steps taken and steps left of the two designs, from what their steps promise.
-use Rattle.std.proofs.Common.{◌≡◌, ℕ, ◌+◌, ◌<◌, ◌≤◌, Bool, true, ◌∙◌, arith}
+use Rattle.std.proofs.Common.{◌≡◌, ◌<◌, Bool, true, ◌∙◌, arith}
 use Rattle.channel.specs.declared.phase.Phase.{Phase}
-use Rattle.channel.specs.declared.phase.Phase.TheVariants.{Run, Request, Stopped, Exit, Denied, Continue}
 use Rattle.channel.specs.declared.pphase.PPhase.{PPhase}
 use Rattle.channel.specs.declared.pphase.PPhase.TheVariants as p
-use Rattle.channel.specs.Calls.{Open, StepTo}
+use Rattle.channel.specs.Calls.{StepTo}
 use Rattle.channel.specs.Timing.{Timing, Timely, Ticked}
-use Rattle.pile.specs.Views.{Power, p_end, number, Opened, InTime}
+use Rattle.pile.specs.Views.{Power, p_end, InTime}
 use Rattle.pile.specs.Calls.{tick, Runs}
 use Rattle.pile.specs.Runs.{Linked}
 use Rattle.converter.specs.declared.rules.Task.{Task}
-use Rattle.converter.specs.declared.rules.Task.TheVariants.{Hold, Same, Stopping, Waking}
 use Rattle.converter.specs.Rules.{answered, next_phase}
 use Rattle.converter.specs.Converter.{view_of, time_of, ConverterOrder}
 use Rattle.converter.proofs.Whole.{fits}

@@ -1,5 +1,5 @@
 -- The counts of a power-down, event by event.
-use Rattle.std.specs.Prelude.{ℕ, ◌+◌, min, max, cond, Some, None, Option}
+use Rattle.std.specs.Prelude.{ℕ, ◌+◌, min, max, None, Option}
 use Rattle.channel.specs.declared.phase.Phase.{Phase}
 use Rattle.channel.specs.declared.phase.Phase.TheVariants as q
 use Rattle.channel.specs.declared.pphase.PPhase.{PPhase}

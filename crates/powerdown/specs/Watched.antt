@@ -1,5 +1,5 @@
 -- A design that is watched while a change is under way: its steps never pass the bound.
-use Rattle.std.specs.Prelude.{◌≡◌, ℕ, ◌+◌, ◌<◌, ◌≤◌, Bool, true}
+use Rattle.std.specs.Prelude.{◌≡◌, ℕ, ◌<◌, ◌≤◌, Bool, true}
 
 -- while a change is under way some of its steps are left, and never more than the bound
 pub record Pending (changing : Bool) (left bound : ℕ) : Type 0 where

@@ -1,5 +1,5 @@
 -- The nodes read of a text give the text back. Assumes nothing.
-use Rattle.std.proofs.Common.{◌≡◌, ℕ, ◌+◌, ◌-◌, ◌<◌, Bool, true, false, cond, List, [], ◌∷◌, ◌++◌, length, get_or, Some, None, Ok, Err, codes, Result, sym, refl, ap, ◌∙◌, subst, arith}
+use Rattle.std.proofs.Common.{◌≡◌, ℕ, ◌+◌, ◌<◌, Bool, true, false, cond, List, [], ◌∷◌, ◌++◌, length, get_or, Some, None, Ok, Err, codes, Result, sym, refl, ap, ◌∙◌, subst, arith}
 use Rattle.std.specs.Str.{bytes_eq}
 use Rattle.std.proofs.lemmas.Slice.Eq.{bytes_eq-Decides}
 use Rattle.std.proofs.lemmas.List.{append_assoc, append-nil, get_or_append_left}
@@ -12,7 +12,6 @@ use Rattle.lines.specs.declared.line.Kind.{Kind}
 use Rattle.lines.specs.declared.line.Kind.TheVariants as kind
 use Rattle.topology.specs.declared.node.Node.{Node}
 use Rattle.topology.specs.declared.node.Part.{Part}
-use Rattle.topology.specs.declared.node.Part.TheVariants.{Timed, Work, Dist, Seq}
 use Rattle.lines.specs.Lines.{name_in, kind_of, width, say, line_of}
 use Rattle.topology.specs.Nodes.{absent, called, named, node_of}
 use Rattle.topology.specs.Format.{node_at, nodes_on, outcome}

@@ -1,5 +1,5 @@
 -- The wiring that every tree holds, as one fact and back.
-use Rattle.std.proofs.Common.{◌≡◌, ℕ, ◌<◌, ◌≤◌, Bool, true, false, List, length, sym, subst}
+use Rattle.std.proofs.Common.{◌≡◌, ℕ, ◌<◌, ◌≤◌, true, false, List, length, sym, subst}
 use Rattle.cells.specs.declared.cell.Cell.{Cell}
 use Rattle.cells.specs.Bodies.{joins_line, joins_twice}
 use Rattle.cells.specs.Flat.{body_at, is_blank, none_share, Wired}

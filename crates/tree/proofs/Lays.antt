@@ -1,7 +1,6 @@
 -- A laid topology: cells one after another, wired as the topology is, each line as after a reset.
-use Rattle.std.proofs.Common.{◌≡◌, ℕ, ◌+◌, ◌<◌, ◌≤◌, Bool, true, false, ◌||◌, eqb, ◌≢◌, ◌⊎◌, List, length, get_or, set, Some, None, Ok, Err, Option, Result, sym, refl, ap, ◌∙◌, subst, inl, inr, arith, get_or-set_other, get_or-set_same, below_more}
+use Rattle.std.proofs.Common.{◌≡◌, ℕ, ◌+◌, ◌<◌, ◌≤◌, true, false, ◌||◌, eqb, ◌≢◌, ◌⊎◌, List, length, set, Ok, Err, Result, sym, refl, ap, ◌∙◌, subst, inl, inr, arith, get_or-set_other, get_or-set_same, below_more}
 use Rattle.std.proofs.lemmas.Bool.{both_ways, ne_eqb, eqb-true, or_cases}
-use Rattle.std.specs.List.{slice_get}
 use Rattle.std.proofs.lemmas.Option.{slice_get-get_or}
 use Rattle.topology.specs.declared.fault.Fault.{Fault}
 use Rattle.leaves.specs.declared.timed.Timed.{Timed}
@@ -15,9 +14,9 @@ use Rattle.cells.specs.declared.cell.Body.{Body}
 use Rattle.cells.specs.declared.cell.Body.TheVariants as body
 use Rattle.cells.specs.declared.cell.Cell.{Cell}
 use Rattle.cells.specs.Bodies.{reset_body, joins_line, joins_twice}
-use Rattle.cells.specs.Flat.{absent, at, body_at, is_blank, is_join, Wired}
+use Rattle.cells.specs.Flat.{absent, at, body_at, is_blank, Wired}
 use Rattle.cells.proofs.Calls.{ResetAll}
-use Rattle.tree.specs.Loads.{tag_of, FreshTimed, Fresh, LineIs, Laid, AllBlank, LoadedAs}
+use Rattle.tree.specs.Loads.{tag_of, Fresh, LineIs, Laid, AllBlank, LoadedAs}
 
 -- one cell more
 pub set_more : (P : ℕ → Cell → Type 0) (cs : List Cell) (i : ℕ) (x : Cell) → i < length cs

@@ -1,22 +1,22 @@
 -- The calls of a tree, from the laws of the nested tree and of the cells.
-use Rattle.std.proofs.Common.{◌≡◌, ℕ, zero, suc, ◌-◌, ◌<◌, ◌≤◌, Bool, true, false, cond, ◌⊎◌, List, is_ok, None, Ok, Option, sym, refl, ap, ◌∙◌, subst, inl, inr, arith}
+use Rattle.std.proofs.Common.{◌≡◌, ℕ, zero, suc, ◌-◌, ◌<◌, Bool, true, false, cond, ◌⊎◌, List, None, Ok, sym, refl, ap, ◌∙◌, subst, inl, inr, arith}
 use Rattle.std.proofs.lemmas.Bool.{both_ways}
 use Rattle.channel.specs.declared.phase.Phase.{Phase}
-use Rattle.channel.specs.declared.phase.Phase.TheVariants.{Run, Request, Stopped, Exit, Denied, Continue}
+use Rattle.channel.specs.declared.phase.Phase.TheVariants.{Stopped, Denied}
 use Rattle.joins.specs.declared.rules.Drive.{Drive}
 use Rattle.joins.specs.declared.rules.Drive.TheVariants.{Nothing, Lower, Raise}
 use Rattle.cells.specs.declared.cell.Cell.{Cell}
 use Rattle.cells.specs.Bodies.{body_phase, body_denier, driven_body, reset_body}
 use Rattle.cells.specs.Nests.{Nest, empty, nest_means, drive_nest, turn, reset_nest}
-use Rattle.cells.specs.Flat.{body_at, put, stepped, reset_to, nest, Wired}
-use Rattle.cells.proofs.Calls.{top_drives, driven_wired, stepped_wired, reset_all, reset_wired, nest_resets}
+use Rattle.cells.specs.Flat.{body_at, put, stepped, reset_to, Wired}
+use Rattle.cells.proofs.Calls.{top_drives, driven_wired, reset_all, nest_resets}
 use Rattle.cells.proofs.Same.{nest_phase, nest_denier, top_steps}
 use Rattle.channel.specs.declared.device.Call.{Call}
 use Rattle.channel.specs.declared.device.Call.TheVariants as call
 use Rattle.channel.specs.Calls.{lower_answer, raise_answer, Lowered, Raised, Stepped, Reset}
 use Rattle.channel.specs.Timing.{Charged, Ticked}
 use Rattle.channel.specs.Device.{InOrder}
-use Rattle.cells.specs.Nests.{nest_timing, NestOrder, timed_leaf, work_leaf, join, nest_after, empty_step}
+use Rattle.cells.specs.Nests.{nest_timing, NestOrder, timed_leaf, work_leaf, join, nest_after}
 use Rattle.cells.proofs.Nested.{nest_in_order, drive_kept, turn_kept, reset_kept, lower_charged, raise_charged}
 use Rattle.tree.specs.declared.state.Tree.{Tree}
 use Rattle.tree.specs.Trees.{top, top_driven, own_driven, own_stepped, lowers, raises, cells_after, own_after, lines_of, tree_nest, tree_means, tree_timing, TreeOrder, TreeMade, Driven}

@@ -1,6 +1,5 @@
 -- Jobs change no phase, no denier and no step left: the nested tree means the same with them.
-use Rattle.std.proofs.Common.{◌≡◌, ℕ, zero, suc, ◌+◌, ◌-◌, ◌<◌, ◌≤◌, Bool, true, false, cond, leb, ◌⊎◌, List, [], ◌∷◌, length, Some, None, Option, sym, refl, ap, ◌∙◌, subst, inl, inr, arith}
-use Rattle.std.proofs.lemmas.Bool.Decides.{nat_tests}
+use Rattle.std.proofs.Common.{◌≡◌, ℕ, zero, suc, ◌+◌, ◌-◌, ◌<◌, ◌≤◌, Bool, true, false, cond, ◌⊎◌, List, length, Some, None, Option, sym, refl, ap, ◌∙◌, subst, inl, inr, arith}
 use Rattle.std.proofs.lemmas.Bool.{cases_eq, cond-true, cond-false}
 use Rattle.std.specs.Str.{bytes_eq}
 use Rattle.channel.specs.declared.phase.Phase.{Phase}
@@ -9,13 +8,12 @@ use Rattle.leaves.specs.Work as work
 use Rattle.leaves.specs.Jobs.{room, after_add}
 use Rattle.words.specs.Names.{text_of}
 use Rattle.joins.specs.declared.rules.Kind.{Kind}
-use Rattle.joins.specs.Together.{Together, InSequence}
 use Rattle.cells.specs.declared.cell.Body.{Body}
 use Rattle.cells.specs.declared.cell.Body.TheVariants as body
 use Rattle.cells.specs.declared.cell.Cell.{Cell}
-use Rattle.cells.specs.Nests.{Nest, empty, timed_leaf, work_leaf, join, nest_means, nest_timing, NestOrder}
+use Rattle.cells.specs.Nests.{Nest, work_leaf, join, nest_means, nest_timing, NestOrder}
 use Rattle.cells.specs.Flat.{at, body_at, put, nest_of, nest, Wired}
-use Rattle.cells.proofs.Passes.{put_same, put_other, length_put}
+use Rattle.cells.proofs.Passes.{put_same, put_other}
 use Rattle.cells.proofs.Calls.{Alike, put_wired}
 use Rattle.tree.specs.Trees.{top}
 use Rattle.tree.specs.Nesting.{is_joined}

@@ -1,5 +1,5 @@
 -- A job call on a tree: the work leaf of that name takes the jobs, as its own call does.
-use Rattle.std.specs.Prelude.{◌≡◌, ℕ, zero, suc, Bool, cond, List, Some, None, Ok, Err, Option, Result}
+use Rattle.std.specs.Prelude.{◌≡◌, ℕ, zero, suc, cond, List, Some, None, Err, Option, Result}
 use Rattle.std.specs.Str.{bytes_eq}
 use Rattle.leaves.specs.declared.worker.JobRefusal.{JobRefusal}
 use Rattle.leaves.specs.declared.worker.JobRefusal.TheVariants.{NoWorkLeaf}

@@ -1,5 +1,5 @@
 -- What a load lays into the cells: each line as after a reset, spare cells blank.
-use Rattle.std.specs.Prelude.{◌≡◌, ℕ, ◌+◌, ◌%◌, ◌<◌, ◌≤◌, max, List, length, Some, None, Ok, Err, Option, Result}
+use Rattle.std.specs.Prelude.{◌≡◌, ℕ, ◌+◌, ◌%◌, ◌<◌, max, List, length, Some, None, Ok, Err, Option, Result}
 use Rattle.std.specs.List.{slice_get}
 use Rattle.channel.specs.declared.phase.Phase.TheVariants.{Stopped}
 use Rattle.leaves.specs.declared.timed.Timed.{Timed}

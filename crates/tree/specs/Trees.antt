@@ -1,14 +1,14 @@
 -- A tree: the nested tree of its last line, and what its calls make of its cells.
-use Rattle.std.specs.Prelude.{◌≡◌, ℕ, zero, suc, Bool, true, false, cond, List, is_ok}
+use Rattle.std.specs.Prelude.{◌≡◌, ℕ, zero, suc, Bool, cond, List, is_ok}
 use Rattle.channel.specs.declared.phase.Phase.{Phase}
-use Rattle.channel.specs.declared.phase.Phase.TheVariants.{Run, Request, Stopped, Exit, Denied, Continue}
+use Rattle.channel.specs.declared.phase.Phase.TheVariants.{Stopped}
 use Rattle.channel.specs.declared.device.Call.{Call}
 use Rattle.channel.specs.declared.device.Call.TheVariants as call
 use Rattle.channel.specs.Means.{Means}
 use Rattle.channel.specs.Calls.{lower_answer, raise_answer}
 use Rattle.channel.specs.Timing.{Timing}
 use Rattle.joins.specs.declared.rules.Drive.{Drive}
-use Rattle.joins.specs.declared.rules.Drive.TheVariants.{Nothing, Lower, Raise}
+use Rattle.joins.specs.declared.rules.Drive.TheVariants.{Lower, Raise}
 use Rattle.joins.specs.Turns.{driven}
 use Rattle.cells.specs.declared.cell.Cell.{Cell}
 use Rattle.cells.specs.Bodies.{driven_body}

@@ -1,4 +1,4 @@
-use Rattle.std.proofs.Common.{◌-◌, sym, ap, ◌∙◌, arith}
+use Rattle.std.proofs.Common.{sym, ap, ◌∙◌, arith}
 use Rattle.cells.specs.Bodies.{body_phase, body_denier}
 use Rattle.edges.specs.Lines.{is_denied, leaf_name}
 use Rattle.edges.proofs.Writes.{ends_empty, ends_at, ends_still, ends_other, ends_denied}

@@ -1,4 +1,4 @@
-use Rattle.std.proofs.Common.{arith, rules}
+use Rattle.std.proofs.Common.{arith}
 use Rattle.powerdown.proofs.settle.settle.Goals as goal
 
 pub loop-taken-preserved : goal.loop-taken-preserved

@@ -1,4 +1,4 @@
-use Rattle.std.proofs.Common.{◌-◌, sym, arith}
+use Rattle.std.proofs.Common.{sym, arith}
 use Rattle.std.proofs.lemmas.Bool.{leb-true, leb-false}
 use Rattle.trace.proofs.Lays.{no_room, parts_long, parts_laid}
 use Rattle.trace.proofs.put.put_line.Goals as goal

@@ -1,4 +1,4 @@
-use Rattle.std.proofs.Common.{refl, rules}
+use Rattle.std.proofs.Common.{refl}
 use Rattle.joins.proofs.Whole.{resets}
 use Rattle.joins.proofs.join.JoinQDevice.reset.Goals as goal
 

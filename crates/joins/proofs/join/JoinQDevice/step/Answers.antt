@@ -1,4 +1,4 @@
-use Rattle.std.proofs.Common.{◌≡◌, is_some, sym, refl, subst, rules}
+use Rattle.std.proofs.Common.{◌≡◌, is_some, refl, subst}
 use Rattle.channel.specs.Device.{InOrder}
 use Rattle.joins.specs.Rules.{first_drive, second_drive, DriveMakes}
 use Rattle.joins.specs.Together.{denier_after, phase_after}

@@ -1,4 +1,4 @@
-use Rattle.std.proofs.Common.{◌≡◌, is_ok, sym, ap}
+use Rattle.std.proofs.Common.{is_ok, sym, ap}
 use Rattle.tree.proofs.Tops.{raise_made, raise_order, raise_bound, raise_ok}
 use Rattle.tree.proofs.calls.TreeQDevice.raise.Goals as goal
 

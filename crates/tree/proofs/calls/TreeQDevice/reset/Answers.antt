@@ -1,4 +1,4 @@
-use Rattle.std.proofs.Common.{refl, ◌∙◌}
+use Rattle.std.proofs.Common.{refl}
 use Rattle.channel.specs.declared.device.Call.TheVariants as call
 use Rattle.cells.specs.Flat.{reset_to}
 use Rattle.cells.proofs.Calls.{reset_all, reset_wired}

@@ -1,4 +1,3 @@
-use Rattle.std.proofs.Common.{refl, ◌∙◌}
 use Rattle.channel.specs.declared.device.Call.TheVariants as call
 use Rattle.cells.specs.Flat.{stepped}
 use Rattle.cells.proofs.Calls.{stepped_wired}

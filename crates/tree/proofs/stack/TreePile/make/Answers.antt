@@ -1,6 +1,5 @@
 use Rattle.std.proofs.Common.{sym, subst}
 use Rattle.pile.specs.declared.own.QCall.TheVariants as own
-use Rattle.tree.specs.declared.stack.TreeCall.TheVariants.{Lower, Raise, Step}
 use Rattle.tree.proofs.Piles.{own_linked, CallDone}
 use Rattle.tree.proofs.stack.TreePile.make.Goals as goal
 

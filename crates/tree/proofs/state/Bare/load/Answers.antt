@@ -1,4 +1,4 @@
-use Rattle.std.proofs.Common.{◌≡◌, ◌≤◌, length, sym, refl, ap, ◌∙◌, subst, arith}
+use Rattle.std.proofs.Common.{◌≡◌, ◌≤◌, length, sym, refl, ap, subst, arith}
 use Rattle.cells.specs.Flat.{Wired}
 use Rattle.topology.specs.Format.{outcome}
 use Rattle.topology.specs.Tables.{nodes_in}

@@ -1,6 +1,5 @@
-use Rattle.std.proofs.Common.{◌≡◌, ◌<◌, sym, refl, ap, ◌∙◌, arith}
-use Rattle.cells.specs.Flat.{Wired}
-use Rattle.tree.specs.Trees.{top, lines_of, top_driven}
+use Rattle.std.proofs.Common.{◌<◌, ◌∙◌, arith}
+use Rattle.tree.specs.Trees.{lines_of, top_driven}
 use Rattle.tree.proofs.Held.{wired_of, held}
 use Rattle.tree.proofs.Tops.{top_is_driven, driven_made, top_driven_wired, own_some}
 use Rattle.tree.proofs.state.Tree.drive_top.Goals as goal

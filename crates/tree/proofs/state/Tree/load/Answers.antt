@@ -1,4 +1,4 @@
-use Rattle.std.proofs.Common.{◌≡◌, refl}
+use Rattle.std.proofs.Common.{refl}
 use Rattle.tree.proofs.Held.{held}
 use Rattle.tree.proofs.Piles.{tree_fit, tree_begun}
 use Rattle.tree.proofs.Tops.{in_order, fresh_nested, fresh_reset}
