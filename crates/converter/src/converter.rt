@@ -51,20 +51,20 @@ impl<D> Converter<D> {
     pub fn phase(&self) -> PPhase
         ensures { result ≡ self.now.phase }
     {
-        self.phase
+        self.phase // of the P-Channel
     }
 
     pub fn state(&self) -> u8
         ensures { result ≡ self.now.state }
     {
-        self.state
+        self.state // the one reached
     }
 
     // The tag of the first leaf that denied the latest ask, if one did.
     pub fn denier(&self) -> Option<u32>
         ensures { result ≡ self.now.denier }
     {
-        self.denier
+        self.denier // of the latest ask
     }
 
     // PREQ, PACCEPT, PDENY.

@@ -150,11 +150,11 @@ impl<R: Rule, A: QDevice, B: QDevice> QDevice for Join<R, A, B> {
     ghost makes = { join_makes R.Rule.kind A.QDevice.means A.QDevice.makes B.QDevice.means B.QDevice.makes };
 
     fn phase(&self) -> Phase {
-        self.phase
+        self.phase // of its own channel
     }
 
     fn denier(&self) -> Option<u32> {
-        self.denier
+        self.denier // of the latest request
     }
 
     fn levels(&self) -> (bool, bool, bool) {

@@ -2,3 +2,4 @@ pub mod Views
 pub mod Calls
 pub mod Runs
 pub mod OfQ
+pub mod Forbids

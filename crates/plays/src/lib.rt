@@ -7,3 +7,4 @@ pub mod instances;
 mod join_plays;
 mod leaf_plays;
 mod walk;
+pub mod worked;

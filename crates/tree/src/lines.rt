@@ -24,7 +24,7 @@ impl Tree<'_> {
     pub fn len(&self) -> usize
         ensures { result ≡ self.now.bare.count }
     {
-        self.bare.count
+        self.bare.count // spare cells are no lines
     }
 
     // Line i, counted from 0; none past the last.
