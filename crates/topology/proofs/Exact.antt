@@ -135,7 +135,7 @@ node_read ns s p e q =
     ap (λ (o : Option ℕ). cond (is_some o) (Err NameTaken) (and_then (part_of ns s) (λ x. Ok (record { name = name_of (name_in s); part = x })))) e
     ∙ ap (λ (r : Result Part Flaw). and_then r (λ x. Ok (record { name = name_of (name_in s); part = x }))) q
 
--- one line of well_formed nodes, after those before it
+-- one line of well-formed nodes, after those before it
 module _ (all xs : List Node) (y : Node) (ys : List Node) (split : xs ++ y ∷ ys ≡ all) (w : WellFormed all) where
   here : get_or all (length xs) absent ≡ y
   here = ap (λ zs. get_or zs (length xs) absent) (sym split) ∙ get_or_at xs y ys absent (length xs) refl
@@ -200,7 +200,7 @@ pub lines_lack : (all xs ys : List Node) → xs ++ ys ≡ all → WellFormed all
 lines_lack all xs [] e w = tt
 lines_lack all xs (y ∷ ys) e w = (text_lacks all xs y ys e w, lines_lack all (xs ++ y ∷ []) ys (append_assoc xs (y ∷ []) ys ∙ e) w)
 
--- well_formed nodes in print are read as themselves
+-- well-formed nodes in print are read as themselves
 pub reads_print : (ns : List Node) (cells : ℕ) → WellFormed ns → length (printed ns) ≤ 8192 → length ns ≤ cells → outcome (printed ns) cells ≡ Ok ns
 reads_print ns cells w short room =
     let lines : lines_of (printed ns) ≡ map (line_text ns) ns = lines_unlines (map (line_text ns) ns) (lines_lack ns [] ns refl w) in

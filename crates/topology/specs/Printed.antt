@@ -25,7 +25,7 @@ print_lines all ns = unlines (map (line_text all) ns)
 abbrev pub printed : List Node → List ℕ
 printed ns = print_lines ns ns
 
--- a text of the format: well_formed nodes in print, small enough
+-- a text of the format: well-formed nodes in print, small enough
 pub record OfFormat (t : List ℕ) (cells : ℕ) : Type 0 where
   pub nodes : List Node
   pub well_formed : WellFormed nodes

@@ -10,7 +10,7 @@ use crate::table::Topology;
 use crate::table::make::walk::attempt;
 
 // The topology of a text, for a caller that has so many cells, or the one fault that holds.
-// Just the texts of the format are accepted: well_formed nodes in print. No two of them read the same.
+// Just the texts of the format are accepted: well-formed nodes in print. No two of them read the same.
 pub fn read(text: &[u8], cells: usize) -> Result<Topology, Fault>
     ensures exact { told result ≡ outcome text.now cells }
     ensures accepts { Decides (is_ok result) (OfFormat text.now cells) }
