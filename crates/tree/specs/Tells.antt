@@ -4,7 +4,7 @@ use Rattle.channel.specs.Phases.{levels_of}
 use Rattle.cells.specs.declared.cell.Cell.{Cell}
 use Rattle.cells.specs.Bodies.{body_phase, body_denier}
 use Rattle.cells.specs.Flat.{at}
-use Rattle.tree.specs.declared.lines.Line.{Line}
+use Rattle.tree.specs.declared.line.Line.{Line}
 
 abbrev pub cell_tells : Cell → Line
 cell_tells c = record {

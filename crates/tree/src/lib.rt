@@ -5,7 +5,7 @@ pub mod bare;
 pub mod calls;
 pub mod job;
 pub mod lay;
-pub mod lines;
+pub mod line;
 pub mod load;
 pub mod played;
 pub mod stack;
