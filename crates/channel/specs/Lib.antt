@@ -4,3 +4,4 @@ pub mod Means
 pub mod Calls
 pub mod Timing
 pub mod Device
+pub mod Ends

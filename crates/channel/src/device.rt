@@ -39,16 +39,13 @@ pub enum Call {
     Restart,
 }
 
-// A device at the lower end of a Q-Channel.
+// A device at the lower end of a Q-Channel. Every value of it is in order.
 pub trait QDevice {
     // phase, leaves from left to right, denier
     ghost means: { Self → Means };
 
     // bound, and steps left in an open phase
     ghost timing: { Self → Timing };
-
-    // the implementation's own part of being in order
-    ghost ordered: { Self → Type 0 };
 
     // what a call makes of the whole value, to the last field
     ghost makes: { Call → Self → Self → Type 0 };
@@ -62,35 +59,37 @@ pub trait QDevice {
 
     // QREQn, QACCEPTn, QDENY.
     fn levels(&self) -> (bool, bool, bool)
-        ensures { result ≡ levels_of (means self.now).phase };
+        ensures { result ≡ levels_of (means self.now).phase }
+    {
+        self.phase().levels()
+    }
 
     // Asks for a stop.
     fn lower(&mut self) -> Result<(), Refusal>
         ensures answer { result ≡ lower_answer (means self.old).phase }
         ensures exact { makes Lower self.old self.new }
-        ensures order { InOrder ordered means timing self.old → Lowered (means self.old) (means self.new) }
-        ensures pace { Charged result (timing self.old) (timing self.new) }
-        ensures kept { InOrder ordered means timing self.old → InOrder ordered means timing self.new };
+        ensures order { Lowered (means self.old) (means self.new) }
+        ensures pace { Charged result (timing self.old) (timing self.new) };
 
     // Wakes a stopped device, or takes a denied request back.
     fn raise(&mut self) -> Result<(), Refusal>
         ensures answer { result ≡ raise_answer (means self.old).phase }
         ensures exact { makes Raise self.old self.new }
-        ensures order { InOrder ordered means timing self.old → Raised (means self.old) (means self.new) }
-        ensures pace { Charged result (timing self.old) (timing self.new) }
-        ensures kept { InOrder ordered means timing self.old → InOrder ordered means timing self.new };
+        ensures order { Raised (means self.old) (means self.new) }
+        ensures pace { Charged result (timing self.old) (timing self.new) };
 
     // Lets one step pass.
     fn step(&mut self)
         ensures exact { makes Step self.old self.new }
-        ensures order { InOrder ordered means timing self.old → Stepped (means self.old) (means self.new) }
-        ensures pace { InOrder ordered means timing self.old → Ticked (means self.old).phase (means self.new).phase (timing self.old) (timing self.new) }
-        ensures kept { InOrder ordered means timing self.old → InOrder ordered means timing self.new };
+        ensures order { Stepped (means self.old) (means self.new) }
+        ensures pace { Ticked (means self.old).phase (means self.new).phase (timing self.old) (timing self.new) };
 
-    // Leads from anything to Stopped, in order.
+    // Leads from anything to Stopped.
     fn reset(&mut self)
         ensures exact { makes Restart self.old self.new }
         ensures order { Reset (means self.old) (means self.new) }
-        ensures pace { (timing self.new).bound ≡ (timing self.old).bound }
-        ensures kept { InOrder ordered means timing self.new };
+        ensures pace { (timing self.new).bound ≡ (timing self.old).bound };
+
+    // phase, leaves and denier agree, and steps are left
+    ghost in_order: { (d : Self) → InOrder means timing d };
 }

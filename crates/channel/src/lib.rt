@@ -2,5 +2,6 @@
 #![tactic(auto)]
 
 pub mod device;
+pub mod end;
 pub mod phase;
 pub mod pphase;

@@ -1,0 +1,34 @@
+-- What a lower and a raise make of the lower end of a Q-Channel.
+use Rattle.std.specs.Prelude.{None}
+use Rattle.channel.specs.declared.phase.Phase.{Phase}
+use Rattle.channel.specs.declared.phase.Phase.TheVariants.{Run, Request, Stopped, Exit, Denied, Continue}
+use Rattle.channel.specs.declared.end.End.{End}
+
+abbrev pub at_rest : End
+at_rest = record { phase = Stopped; denier = None }
+
+-- the same denier in another phase
+abbrev pub end_at : Phase → End → End
+end_at p e = record { phase = p; denier = e.denier }
+
+abbrev pub lowered_at : Phase → End → End
+lowered_at Run e = record { phase = Request; denier = None }
+lowered_at Request e = e
+lowered_at Stopped e = e
+lowered_at Exit e = e
+lowered_at Denied e = e
+lowered_at Continue e = e
+
+abbrev pub end_lowered : End → End
+end_lowered e = lowered_at e.phase e
+
+abbrev pub raised_at : Phase → End → End
+raised_at Run e = e
+raised_at Request e = e
+raised_at Stopped e = end_at Exit e
+raised_at Exit e = e
+raised_at Denied e = end_at Continue e
+raised_at Continue e = e
+
+abbrev pub end_raised : End → End
+end_raised e = raised_at e.phase e
