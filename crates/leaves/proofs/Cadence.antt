@@ -8,7 +8,7 @@ use Rattle.channel.specs.declared.phase.Phase.TheVariants.{Run, Request, Stopped
 use Rattle.channel.specs.declared.device.Call.{Call}
 use Rattle.channel.specs.declared.device.Call.TheVariants.{Lower, Raise, Step, Restart}
 use Rattle.leaves.specs.declared.timed.Timed.{Timed}
-use Rattle.leaves.specs.Timed.{after, lower_at, raise_at, step_at}
+use Rattle.leaves.specs.Timed.{after, counted}
 use Rattle.leaves.specs.EveryKth.{after_run, lowers, tally, one_more, AnswersNth, DeniesEvery}
 
 -- counting up by one, modulo k
@@ -29,32 +29,18 @@ record Counts (k n : ℕ) (t : Timed) : Type 0 where
   every_is : t.every ≡ k
   count_is : 0 < k → t.count ≡ n % k
 
-counts_lower : (k n : ℕ) (p : Phase) (t : Timed) → Counts k n t → Counts k (one_more p n) (lower_at p t)
-counts_lower k n Run t h = record {
-  every_is = h.every_is;
-  count_is = λ pos. rw (h.count_is pos, h.every_is) (count_more n k pos);
-}
-counts_lower k n Request t h = h
-counts_lower k n Stopped t h = h
-counts_lower k n Exit t h = h
-counts_lower k n Denied t h = h
-counts_lower k n Continue t h = h
-
-counts_raise : (k n : ℕ) (p : Phase) (t : Timed) → Counts k n t → Counts k n (raise_at p t)
-counts_raise k n Run t h = h
-counts_raise k n Request t h = h
-counts_raise k n Stopped t h = record { every_is = h.every_is; count_is = h.count_is }
-counts_raise k n Exit t h = h
-counts_raise k n Denied t h = record { every_is = h.every_is; count_is = h.count_is }
-counts_raise k n Continue t h = h
-
-counts_step : (k n : ℕ) (p : Phase) (t : Timed) → Counts k n t → Counts k n (step_at p t)
-counts_step k n p t h = record { every_is = grind (arith, nat_tests); count_is = λ pos. grind (arith, nat_tests) }
+counts_lower : (k n : ℕ) (p : Phase) (t : Timed) → Counts k n t → 0 < k → counted p t ≡ one_more p n % k
+counts_lower k n Run t h pos = rw (h.count_is pos, h.every_is) (count_more n k pos)
+counts_lower k n Request t h pos = h.count_is pos
+counts_lower k n Stopped t h pos = h.count_is pos
+counts_lower k n Exit t h pos = h.count_is pos
+counts_lower k n Denied t h pos = h.count_is pos
+counts_lower k n Continue t h pos = h.count_is pos
 
 counts_call : (k n : ℕ) (c : Call) (t : Timed) → Counts k n t → Counts k (tally c t n) (after c t)
-counts_call k n Lower t h = counts_lower k n t.phase t h
-counts_call k n Raise t h = counts_raise k n t.phase t h
-counts_call k n Step t h = counts_step k n t.phase t h
+counts_call k n Lower t h = record { every_is = h.every_is; count_is = counts_lower k n t.end.phase t h }
+counts_call k n Raise t h = record { every_is = h.every_is; count_is = h.count_is }
+counts_call k n Step t h = record { every_is = h.every_is; count_is = h.count_is }
 counts_call k n Restart t h = record { every_is = h.every_is; count_is = λ pos. sym (zero-mod k) }
 
 counts_run : (k n : ℕ) (t : Timed) (cs : List Call) → Counts k n t → Counts k (lowers n t cs) (after_run t cs)

@@ -23,7 +23,7 @@ one_more Continue n = n
 
 -- accepted lowers since the making or the latest reset, where there were n before the call
 abbrev pub tally : Call → Timed → ℕ → ℕ
-tally Lower t n = one_more t.phase n
+tally Lower t n = one_more t.end.phase n
 tally Raise t n = n
 tally Step t n = n
 tally Restart t n = 0
@@ -38,8 +38,8 @@ Multiple k n = (0 < k) × (n % k ≡ 0)
 
 -- a step that answers the n-th request denies it just where n is a multiple of K
 pub record AnswersNth (k n : ℕ) (t : Timed) : Type 0 where
-  pub denied : t.phase ≡ Request → (after_step t).phase ≡ Denied → Multiple k n
-  pub accepted : t.phase ≡ Request → (after_step t).phase ≡ Stopped → Multiple k n → ⊥
+  pub denied : t.end.phase ≡ Request → (after_step t).end.phase ≡ Denied → Multiple k n
+  pub accepted : t.end.phase ≡ Request → (after_step t).end.phase ≡ Stopped → Multiple k n → ⊥
 
 -- from here on, whatever calls come
 abbrev pub DeniesEvery : ℕ → Timed → Type 0

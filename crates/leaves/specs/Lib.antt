@@ -1,5 +1,6 @@
 pub mod Alone
 pub mod Timed
 pub mod EveryKth
-pub mod Work
-pub mod Jobs
+pub mod Left
+pub mod Keeps
+pub mod Ordered

@@ -3,5 +3,3 @@
 
 pub mod delays;
 pub mod timed;
-pub mod work;
-pub mod worker;
