@@ -5,3 +5,4 @@ pub mod device;
 pub mod end;
 pub mod phase;
 pub mod pphase;
+pub mod signals;
