@@ -7,6 +7,7 @@ use Rattle.channel.specs.declared.phase.Phase.TheVariants.{Run, Request, Stopped
 use Rattle.channel.specs.Ends.{end_lowered, end_raised}
 use Rattle.leaves.specs.Alone.{ToldAt}
 use Rattle.leaves.specs.Left.{LeftAt, left_lowered, left_raised, left_stepped, end_stepped}
+use Rattle.leaves.specs.Pressed.{end_pressed}
 use Rattle.leaves.specs.declared.delays.Delays.{Delays}
 
 module _ (p : Phase) (x : Option ℕ) where
@@ -29,3 +30,7 @@ module _ (p : Phase) (x : Option ℕ) where
   pub step_told : (b : Bool) (t n : ℕ) → ToldAt p t x
       → ToldAt (end_stepped b t n (record { phase = p; denier = x })).phase t (end_stepped b t n (record { phase = p; denier = x })).denier
   step_told b t n h = grind (arith, nat_tests)
+
+  pub pressed_told : (idle more : Bool) (t : ℕ) → ToldAt p t x
+      → ToldAt (end_pressed idle more t (record { phase = p; denier = x })).phase t (end_pressed idle more t (record { phase = p; denier = x })).denier
+  pressed_told idle more t h = grind arith

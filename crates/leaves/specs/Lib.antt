@@ -4,3 +4,6 @@ pub mod EveryKth
 pub mod Left
 pub mod Keeps
 pub mod Ordered
+pub mod Work
+pub mod Jobs
+pub mod Pressed

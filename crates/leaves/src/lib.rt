@@ -3,3 +3,5 @@
 
 pub mod delays;
 pub mod timed;
+pub mod work;
+pub mod worker;
