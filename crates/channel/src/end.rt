@@ -7,18 +7,18 @@ use crate::device::Refusal;
 use crate::phase::Phase;
 
 #[derive(Clone, Copy, PartialEq, Eq, Debug)]
-pub struct End {
+pub struct QEnd {
     pub phase: Phase,
     // the tag of the first leaf that denied the latest request, if one did
     pub denier: Option<u32>,
 }
 
-impl End {
+impl QEnd {
     // At Stopped, with no denier.
     pub fn at_rest() -> Self
         ensures { result ≡ at_rest }
     {
-        End {
+        QEnd {
             phase: Phase::Stopped,
             denier: None,
         }
@@ -31,7 +31,7 @@ impl End {
     {
         match self.phase {
             Phase::Run => {
-                *self = End {
+                *self = QEnd {
                     phase: Phase::Request,
                     denier: None,
                 };

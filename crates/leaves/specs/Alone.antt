@@ -3,11 +3,11 @@ use Rattle.std.specs.Prelude.{◌≡◌, ℕ, [], ◌∷◌, Some, None, Option}
 use Rattle.std.proofs.Props.{props}
 use Rattle.channel.specs.declared.phase.Phase.{Phase}
 use Rattle.channel.specs.declared.phase.Phase.TheVariants.{Run, Request, Stopped, Exit, Denied, Continue}
-use Rattle.channel.specs.declared.end.End.{End}
+use Rattle.channel.specs.declared.end.QEnd.{QEnd}
 use Rattle.channel.specs.Means.{Means}
 
 -- the meaning of a leaf
-abbrev pub alone : ℕ → End → Means
+abbrev pub alone : ℕ → QEnd → Means
 alone t e = record { phase = e.phase; leaves = (record { tag = t; at = e.phase }) ∷ []; denier = e.denier }
 
 -- the denier is the leaf's own tag, from its denial to the next accepted lower

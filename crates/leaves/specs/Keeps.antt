@@ -1,9 +1,8 @@
 -- The calls of a timed leaf keep its steps left and its denier with its phase.
-use Rattle.std.specs.Prelude.{◌≡◌, ℕ, Bool, true, false, Option}
-use Rattle.std.proofs.Common.{rules, arith}
+use Rattle.std.specs.Prelude.{ℕ, Bool, Option}
+use Rattle.std.proofs.Common.{arith}
 use Rattle.std.proofs.lemmas.Bool.Decides.{nat_tests}
 use Rattle.channel.specs.declared.phase.Phase.{Phase}
-use Rattle.channel.specs.declared.phase.Phase.TheVariants.{Run, Request, Stopped, Exit, Denied, Continue}
 use Rattle.channel.specs.Ends.{end_lowered, end_raised}
 use Rattle.leaves.specs.Alone.{ToldAt}
 use Rattle.leaves.specs.Left.{LeftAt, left_lowered, left_raised, left_stepped, end_stepped}

@@ -3,7 +3,7 @@ use Rattle.std.specs.Prelude.{◌≡◌, ℕ, ◌-◌, ◌≤◌, Bool, true, fa
 use Rattle.std.proofs.Props.{props}
 use Rattle.channel.specs.declared.phase.Phase.{Phase}
 use Rattle.channel.specs.declared.phase.Phase.TheVariants.{Run, Request, Stopped, Exit, Denied, Continue}
-use Rattle.channel.specs.declared.end.End.{End}
+use Rattle.channel.specs.declared.end.QEnd.{QEnd}
 use Rattle.channel.specs.Ends.{end_at}
 use Rattle.leaves.specs.declared.delays.Delays.{Delays}
 
@@ -52,11 +52,11 @@ left_stepped Denied n = n
 left_stepped Continue n = 0
 
 -- the answer at the end of the delay
-abbrev pub answered : Bool → ℕ → End → End
+abbrev pub answered : Bool → ℕ → QEnd → QEnd
 answered true t e = record { phase = Denied; denier = Some t }
 answered false t e = end_at Stopped e
 
-abbrev pub stepped_at : Phase → Bool → ℕ → ℕ → End → End
+abbrev pub stepped_at : Phase → Bool → ℕ → ℕ → QEnd → QEnd
 stepped_at Run b t n e = e
 stepped_at Request b t n e = cond (nat_lt 1 n) e (answered b t e)
 stepped_at Stopped b t n e = e
@@ -65,5 +65,5 @@ stepped_at Denied b t n e = e
 stepped_at Continue b t n e = end_at Run e
 
 -- a step of a leaf with n steps left, tag t, and b where the open request is one to deny
-abbrev pub end_stepped : Bool → ℕ → ℕ → End → End
+abbrev pub end_stepped : Bool → ℕ → ℕ → QEnd → QEnd
 end_stepped b t n e = stepped_at e.phase b t n e

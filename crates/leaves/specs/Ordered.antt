@@ -1,9 +1,8 @@
 -- A leaf is in order.
-use Rattle.std.proofs.Common.{◌≡◌, ℕ, ◌≤◌, ◌+◌, max, Option, arith, rules}
+use Rattle.std.proofs.Common.{ℕ, ◌+◌, max, Option, arith}
 use Rattle.channel.specs.declared.phase.Phase.{Phase}
-use Rattle.channel.specs.declared.phase.Phase.TheVariants.{Run, Request, Stopped, Exit, Denied, Continue}
-use Rattle.channel.specs.Means.{Means, Sound}
-use Rattle.channel.specs.Timing.{Timing, Timely}
+use Rattle.channel.specs.Means.{Sound}
+use Rattle.channel.specs.Timing.{Timely}
 use Rattle.channel.specs.Device.{InOrder}
 use Rattle.leaves.specs.Alone.{alone, ToldAt}
 use Rattle.leaves.specs.Left.{LeftAt}

@@ -1,13 +1,13 @@
 -- The timed leaf, call by call and to the last field.
-use Rattle.std.specs.Prelude.{◌≡◌, ℕ, ◌+◌, ◌-◌, max, Bool, cond, ◌&&◌, Some, refl, ◌==◌, nat_lt}
+use Rattle.std.specs.Prelude.{◌≡◌, ℕ, ◌+◌, max, Bool, cond, ◌&&◌, refl, ◌==◌, nat_lt}
 use Rattle.channel.specs.declared.phase.Phase.{Phase}
 use Rattle.channel.specs.declared.phase.Phase.TheVariants.{Run, Request, Stopped, Exit, Denied, Continue}
-use Rattle.channel.specs.declared.end.End.{End}
+use Rattle.channel.specs.declared.end.QEnd.{QEnd}
 use Rattle.channel.specs.declared.device.Call.{Call}
 use Rattle.channel.specs.declared.device.Call.TheVariants.{Lower, Raise, Step, Restart}
 use Rattle.channel.specs.Means.{Means}
 use Rattle.channel.specs.Timing.{Timing}
-use Rattle.channel.specs.Ends.{at_rest, end_at, end_lowered, end_raised}
+use Rattle.channel.specs.Ends.{at_rest, end_lowered, end_raised}
 use Rattle.leaves.specs.Alone.{alone, ToldAt}
 use Rattle.leaves.specs.Left.{LeftAt, left_lowered, left_raised, left_stepped, end_stepped}
 use Rattle.leaves.specs.Keeps.{lower_left, raise_left, step_left, lower_told, raise_told, step_told}
@@ -35,7 +35,7 @@ made tag d k = record {
 }
 
 -- the same leaf with another count, end and steps left, which go together
-abbrev pub turned : (t : Timed) → ℕ → (e : End) (n : ℕ) → LeftAt e.phase t.delays n → ToldAt e.phase t.tag e.denier → Timed
+abbrev pub turned : (t : Timed) → ℕ → (e : QEnd) (n : ℕ) → LeftAt e.phase t.delays n → ToldAt e.phase t.tag e.denier → Timed
 turned t c e n h k = record {
   tag = t.tag;
   delays = t.delays;

@@ -2,7 +2,7 @@
 use Rattle.std.specs.Prelude.{◌≡◌, ℕ, ◌+◌, ◌-◌, cond, refl, ◌==◌, nat_lt}
 use Rattle.channel.specs.declared.phase.Phase.{Phase}
 use Rattle.channel.specs.declared.phase.Phase.TheVariants.{Run, Request, Stopped, Exit, Denied, Continue}
-use Rattle.channel.specs.declared.end.End.{End}
+use Rattle.channel.specs.declared.end.QEnd.{QEnd}
 use Rattle.channel.specs.declared.device.Call.{Call}
 use Rattle.channel.specs.declared.device.Call.TheVariants.{Lower, Raise, Step, Restart}
 use Rattle.channel.specs.Means.{Means}
@@ -40,7 +40,7 @@ made tag p = record {
 }
 
 -- the same leaf with other jobs that wait, other jobs done in this request, and another end
-abbrev pub turned : (w : Work) → ℕ → ℕ → (e : End) → ToldAt e.phase w.tag e.denier → Work
+abbrev pub turned : (w : Work) → ℕ → ℕ → (e : QEnd) → ToldAt e.phase w.tag e.denier → Work
 turned w j n e k = record {
   tag = w.tag;
   patience = w.patience;

@@ -4,7 +4,7 @@ ghost use Rattle.leaves.specs.Left.{LeftAt, LeftAt-prop};
 
 use crate::delays::Delays;
 use channel::device::{QDevice, Refusal};
-use channel::end::End;
+use channel::end::QEnd;
 use channel::phase::Phase;
 
 #[derive(Clone, Copy)]
@@ -15,7 +15,7 @@ pub struct Timed {
     every: u8,
     // accepted lowers since making or reset, modulo `every`
     count: u8,
-    end: End,
+    end: QEnd,
     // steps left in an open phase, else 0
     left: u8,
     ghost in_time: { LeftAt end.phase delays left } by { LeftAt-prop end.phase delays left },
@@ -39,7 +39,7 @@ impl Timed {
             delays: Delays::new(d, e),
             every: k,
             count: 0,
-            end: End::at_rest(),
+            end: QEnd::at_rest(),
             left: 0,
         }
     }
@@ -90,7 +90,7 @@ impl QDevice for Timed {
             Phase::Request => {
                 self.left = 0;
                 if self.every > 0 && self.count == 0 {
-                    self.end = End {
+                    self.end = QEnd {
                         phase: Phase::Denied,
                         denier: Some(self.tag),
                     };
@@ -108,7 +108,7 @@ impl QDevice for Timed {
 
     fn reset(&mut self) {
         self.count = 0;
-        self.end = End::at_rest();
+        self.end = QEnd::at_rest();
         self.left = 0;
     }
 }

@@ -3,7 +3,7 @@ ghost use Rattle.leaves.specs.Alone.{ToldAt, ToldAt-prop};
 
 use crate::worker::JobRefusal;
 use channel::device::{QDevice, Refusal};
-use channel::end::End;
+use channel::end::QEnd;
 use channel::phase::Phase;
 
 #[derive(Clone, Copy)]
@@ -15,7 +15,7 @@ pub struct Work {
     jobs: u16,
     // jobs done in the latest request
     done: u8,
-    end: End,
+    end: QEnd,
     ghost told: { ToldAt end.phase tag end.denier } by { ToldAt-prop end.phase tag end.denier },
 }
 
@@ -33,7 +33,7 @@ impl Work {
             patience: p,
             jobs: 0,
             done: 0,
-            end: End::at_rest(),
+            end: QEnd::at_rest(),
         }
     }
 
@@ -106,7 +106,7 @@ impl QDevice for Work {
                 self.done += 1;
             }
             Phase::Request => {
-                self.end = End {
+                self.end = QEnd {
                     phase: Phase::Denied,
                     denier: Some(self.tag),
                 };
@@ -121,6 +121,6 @@ impl QDevice for Work {
     fn reset(&mut self) {
         self.jobs = 0;
         self.done = 0;
-        self.end = End::at_rest();
+        self.end = QEnd::at_rest();
     }
 }

@@ -1,4 +1,4 @@
-use Rattle.std.proofs.Common.{ap, refl, ◌∙◌}
+use Rattle.std.proofs.Common.{refl}
 use Rattle.leaves.proofs.Cadence.{denies_every}
 use Rattle.leaves.proofs.timed.Timed.new.Goals as goal
 
