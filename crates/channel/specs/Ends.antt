@@ -2,7 +2,12 @@
 use Rattle.std.specs.Prelude.{None}
 use Rattle.channel.specs.declared.phase.Phase.{Phase}
 use Rattle.channel.specs.declared.phase.Phase.TheVariants.{Run, Request, Stopped, Exit, Denied, Continue}
+use Rattle.channel.specs.Means.{Means}
 use Rattle.channel.specs.declared.end.QEnd.{QEnd}
+
+-- where a device stands, and who denied
+abbrev pub end_of : Means → QEnd
+end_of m = record { phase = m.phase; denier = m.denier }
 
 abbrev pub at_rest : QEnd
 at_rest = record { phase = Stopped; denier = None }

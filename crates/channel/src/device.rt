@@ -3,11 +3,13 @@ ghost use Rattle.std.specs.Prelude.{◌≡◌};
 ghost use Rattle.channel.specs.Phases.{levels_of};
 ghost use Rattle.channel.specs.Means.{Means};
 ghost use Rattle.channel.specs.Calls.{refusal_number, lower_answer, raise_answer, Lowered, Raised, Stepped, Reset};
+ghost use Rattle.channel.specs.Ends.{end_of};
 ghost use Rattle.channel.specs.Timing.{Timing, Charged, Ticked};
 ghost use Rattle.channel.specs.Device.{InOrder};
 ghost use Rattle.channel.specs.declared.device.Call.{Call};
 ghost use Rattle.channel.specs.declared.device.Call.TheVariants.{Lower, Raise, Step, Restart};
 
+use crate::end::QEnd;
 use crate::phase::Phase;
 use crate::signals::Signals;
 
@@ -55,6 +57,16 @@ pub trait QDevice {
     // The tag of the first leaf that denied the latest request, if one did.
     fn denier(&self) -> Option<u32>
         ensures { result ≡ (means self.now).denier };
+
+    // Both.
+    fn end(&self) -> QEnd
+        ensures { result ≡ end_of (means self.now) }
+    {
+        QEnd {
+            phase: self.phase(),
+            denier: self.denier(),
+        }
+    }
 
     // QREQn, QACCEPTn, QDENY.
     fn levels(&self) -> (bool, bool, bool)

@@ -13,7 +13,8 @@ use Rattle.joins.specs.declared.rules.Drive.TheVariants.{Nothing, Lower, Raise}
 use Rattle.joins.specs.Rules.{first_drive, second_drive, distributor_drive, sequencer_first, sequencer_second, while_at, raise_denied, heard, or_else, decided}
 use Rattle.joins.specs.Turns.{Drove, Turned, driven}
 use Rattle.joins.specs.Together.{joined, Asking, Firm, Both, Together, InSequence, denier_after, phase_after}
-use Rattle.joins.proofs.Leaves.{each_++, each_map, tags-++, leftmost-++, none_denied}
+use Rattle.joins.specs.Leaves.{tags-++, leftmost-++}
+use Rattle.joins.specs.Ordered.{sound_at, run_none, stopped_none}
 
 -- a drive that a distributor gives, or none
 abbrev pub May : Phase → Bool → Phase → Drive → Type 0
@@ -53,15 +54,6 @@ second_may Sequencer Stopped n x y = inr refl
 second_may Sequencer Exit n x y = inr refl
 second_may Sequencer Denied n x y = inr refl
 second_may Sequencer Continue n x y = inr refl
-
-pub sound_at : (p : Phase) (m : Means) → m.phase ≡ p → Sound m → Agrees p m.leaves m.denier
-sound_at p m e s = subst (λ q. Agrees q m.leaves m.denier) e s
-
-pub run_none : (m : Means) → Sound m → m.phase ≡ Run → leftmost m.leaves ≡ None
-run_none m s e = none_denied Run (grind arith) m.leaves (sound_at Run m e s)
-
-pub stopped_none : (m : Means) → Sound m → m.phase ≡ Stopped → leftmost m.leaves ≡ None
-stopped_none m s e = none_denied Stopped (grind arith) m.leaves (sound_at Stopped m e s).0
 
 -- a device that was asked, or not yet: what it tells is its leftmost leaf at Denied
 pub record Asked (n : Means) : Type 0 where
@@ -240,45 +232,6 @@ join_stepped p d a x b y h = record {
   where
     joins : {X : Type 0} {l m k n : List X} → l ≡ m → k ≡ n → l ++ k ≡ m ++ n
     joins e f = rw (e, f)
-
-each_at : (p : Phase) (Q : Phase → Type 0) (m : Means) → ((q : Phase) → q ≡ p → Q q) → Each (λ q. q ≡ p) m.leaves → Each Q m.leaves
-each_at p Q m f e = each_map (λ q. q ≡ p) Q f m.leaves e
-
-pub run_each : (m : Means) → Sound m → m.phase ≡ Run → Each (λ p. p ≡ Run) m.leaves
-run_each m s e = sound_at Run m e s
-
-pub waking_each : (m : Means) → Sound m → Waking m.phase → Each Waking m.leaves
-waking_each m s (inl e) = each_at Stopped Waking m (λ q i. inl i) (sound_at Stopped m e s).0
-waking_each m s (inr (inl e)) = (sound_at Exit m e s).0
-waking_each m s (inr (inr e)) = each_at Run Waking m (λ q i. inr (inr i)) (run_each m s e)
-
-asking_none : (m : Means) → Sound m → Asking m → leftmost m.leaves ≡ None
-asking_none m s (inl e) = run_none m s e
-asking_none m s (inr (inl e)) = stopped_none m s e
-asking_none m s (inr (inr e)) = sound_at Request m e.0 s e.1
-
--- a join over devices in order is in order
-pub join_sound : (p : Phase) (d : Option ℕ) (a b : Means) → Sound a → Sound b → Together p d a b → Sound (joined p d a b)
-join_sound Run d a b sa sb h = each_++ _ a.leaves b.leaves (run_each a sa h.first) (run_each b sb h.second)
-join_sound Request None a b sa sb h =
-    λ e. leftmost-++ a.leaves b.leaves ∙ rw (asking_none a sa h.0) (asking_none b sb h.1)
-join_sound Request (Some t) a b sa sb h = λ e. grind arith
-join_sound Stopped d a b sa sb h =
-    (each_++ _ a.leaves b.leaves (sound_at Stopped a h.0.first sa).0 (sound_at Stopped b h.0.second sb).0, h.1)
-join_sound Exit d a b sa sb h =
-    (each_++ Waking a.leaves b.leaves (waking_each a sa h.0) (waking_each b sb h.1), h.3)
-join_sound Denied d a b sa sb h = (
-  each_++ Denying a.leaves b.leaves
-      (each_at Run Denying a (λ q i. inl i) (run_each a sa h.0.first))
-      (each_at Run Denying b (λ q i. inl i) (run_each b sb h.0.second)),
-  h.1,
-)
-join_sound Continue d a b sa sb h = (
-  each_++ Continuing a.leaves b.leaves
-      (each_at Run Continuing a (λ q i. inl i) (run_each a sa h.0.first))
-      (each_at Run Continuing b (λ q i. inl i) (run_each b sb h.0.second)),
-  h.1,
-)
 
 pub turned_phase : (w : Drive) (m mid n : Means) → Turned w m mid n → (mid.phase ≡ driven w m.phase) × StepTo (driven w m.phase) n.phase
 turned_phase w m mid n t =

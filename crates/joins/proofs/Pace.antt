@@ -12,6 +12,7 @@ use Rattle.joins.specs.declared.rules.Drive.TheVariants.{Nothing, Lower, Raise}
 use Rattle.joins.specs.Rules.{first_drive, second_drive, distributor_drive, decided}
 use Rattle.joins.specs.Turns.{driven}
 use Rattle.joins.specs.Bounds.{combine, answer_in, return_in, join_left, join_timing}
+use Rattle.joins.specs.Ordered.{AskingAt, FirmAt, PhasesAt}
 use Rattle.joins.proofs.Order.{May, first_may, second_may}
 
 -- one step of a device below a join, from phase p to phase q, with the timing before, between and after
@@ -42,9 +43,6 @@ moves Raise p = true
 abbrev pub Gains : Bool → ℕ → ℕ → ℕ → ℕ → Type 0
 Gains true x y b v = (y < x) × (v < x + b)
 Gains false x y b v = (y ≡ x) × (v ≤ x + b)
-
-abbrev AskingAt : Phase → Type 0
-AskingAt p = (p ≡ Run) ⊎ (p ≡ Stopped) ⊎ (p ≡ Request)
 
 pub asked_gains : (w : Drive) (p q : Phase) (t mid u : Timing) → AskingAt p → May Request false p w → Paced w p q t mid u
     → Gains (moves w p) (answer_in p t) (answer_in q u) t.bound (return_in q u)
@@ -83,9 +81,6 @@ abbrev pub SequenceAt : Kind → Phase → Phase → Type 0
 SequenceAt Distributor x y = Unit {0}
 SequenceAt Sequencer x y = (y ≡ Run) ⊎ (x ≡ Stopped)
 
-abbrev FirmAt : Phase → Type 0
-FirmAt p = (p ≡ Run) ⊎ (p ≡ Denied) ⊎ (p ≡ Continue) ⊎ (p ≡ Request)
-
 -- one device at least gets on, unless both are where the join wants them
 one_asked : (k : Kind) (x y q r : Phase) → AskingAt x → AskingAt y → SequenceAt k x y
     → StepTo (driven (first_drive k Request false x y) x) q → StepTo (driven (second_drive k Request false x y) y) r
@@ -122,22 +117,6 @@ spent_wakes : (k : Kind) (b : Bool) (w : Drive) (p : Phase) (t : Timing) → Wak
     → Spent k (moves w p) (return_in p t)
 spent_wakes Distributor b w p t a e = grind arith
 spent_wakes Sequencer b w p t a e = tt
-
--- the phases that a join's devices may be at
-abbrev pub PhasesAt : Phase → Option ℕ → Phase → Phase → Type 0
-PhasesAt Run d x y = Unit {0}
-PhasesAt Request None x y = AskingAt x × AskingAt y
-PhasesAt Request (Some z) x y = (FirmAt x ⊎ FirmAt y) × (x ≡ Run → y ≡ Run → ⊥)
-PhasesAt Stopped d x y = Unit {0}
-PhasesAt Exit d x y = Waking x × Waking y × (x ≡ Run → y ≡ Run → ⊥)
-PhasesAt Denied d x y = Unit {0}
-PhasesAt Continue d x y = Unit {0}
-
--- a join over devices in time is in time
-pub join_timely : (k : Kind) (p : Phase) (d : Option ℕ) (x : Phase) (t : Timing) (y : Phase) (u : Timing)
-    → PhasesAt p d x y → Timely x t → Timely y u → Timely p (join_timing k p d x t y u)
-join_timely Distributor p d x t y u h a b = record { bounded = grind arith; some_left = grind arith; at_most = grind arith }
-join_timely Sequencer p d x t y u h a b = record { bounded = grind arith; some_left = grind arith; at_most = grind arith }
 
 -- a denier stays
 abbrev pub Stays : Option ℕ → Option ℕ → Type 0

@@ -1,11 +1,14 @@
 -- The calls of a join over any two devices, from the laws over meanings.
-use Rattle.std.proofs.Common.{◌≡◌, ℕ, is_some, Some, None, Option, sym, refl, ap, ◌∙◌, subst, inl, inr, arith}
+use Rattle.std.proofs.Common.{◌≡◌, ℕ, is_some, Some, None, Option, refl, sym, ap, ◌∙◌, subst, inl, inr, arith}
 use Rattle.channel.specs.declared.phase.Phase.{Phase}
 use Rattle.channel.specs.declared.phase.Phase.TheVariants.{Run, Request, Stopped, Exit, Denied, Continue}
-use Rattle.channel.specs.Means.{Means, Has, Sound, Lowering}
-use Rattle.channel.specs.Calls.{LowerDone, LoweredAt, Lowered, RaisedAt, Raised, Stepped, Reset}
+use Rattle.channel.specs.declared.device.QDevice as device
+use Rattle.channel.specs.Means.{Means, Sound, Lowering}
+use Rattle.channel.specs.Calls.{LowerDone, Lowered, Raised, Stepped, Reset}
+use Rattle.channel.specs.Ends.{end_lowered, end_raised}
 use Rattle.channel.specs.Timing.{Timing, Timely, Ticked}
 use Rattle.channel.specs.Device.{InOrder}
+use Rattle.joins.specs.declared.rule.Rule as rule
 use Rattle.joins.specs.declared.rules.Kind.{Kind}
 use Rattle.joins.specs.declared.rules.Kind.TheVariants.{Distributor, Sequencer}
 use Rattle.joins.specs.declared.rules.Drive.{Drive}
@@ -14,28 +17,17 @@ use Rattle.joins.specs.declared.join.Join.{Join}
 use Rattle.joins.specs.Rules.{first_drive, second_drive}
 use Rattle.joins.specs.Turns.{Drove, Turned}
 use Rattle.joins.specs.Together.{joined, Both, Together, InSequence, denier_after, phase_after}
-use Rattle.joins.specs.Join.{join_means, join_time, JoinOrder, Whole, own}
-use Rattle.joins.proofs.Leaves.{each_++, each_map, tags-++}
-use Rattle.joins.proofs.Order.{first_may, second_may, Pair, join_stepped, join_sound, keeps_together, keeps_sequence, turned_phase, sound_at}
-use Rattle.joins.proofs.Pace.{Paced, PhasesAt, SequenceAt, Stays, join_timely, join_ticked}
-
--- the phases that go with a join's own
-phases_at : (p : Phase) (d : Option ℕ) (a b : Means) → Together p d a b → PhasesAt p d a.phase b.phase
-phases_at Run d a b h = tt
-phases_at Request None a b h = (grind arith, grind arith)
-phases_at Request (Some t) a b h = (grind arith, h.1)
-phases_at Stopped d a b h = tt
-phases_at Exit d a b h = (h.0, h.1, h.2)
-phases_at Denied d a b h = tt
-phases_at Continue d a b h = tt
+use Rattle.joins.specs.Bounds.{join_timing}
+use Rattle.joins.specs.Leaves.{each_++, each_map, tags-++}
+use Rattle.joins.specs.Certain.{together_certain, sequence_certain}
+use Rattle.joins.specs.Join.{join_means, join_time}
+use Rattle.joins.specs.Ordered.{sound_at, phases_at}
+use Rattle.joins.proofs.Order.{first_may, second_may, Pair, join_stepped, keeps_together, keeps_sequence, turned_phase}
+use Rattle.joins.proofs.Pace.{Paced, SequenceAt, Stays, join_ticked}
 
 sequence_at : (k : Kind) (a b : Means) → InSequence k a b → SequenceAt k a.phase b.phase
 sequence_at Distributor a b h = tt
 sequence_at Sequencer a b h = h
-
-pub both_run_sequence : (k : Kind) (a b : Means) → b.phase ≡ Run → InSequence k a b
-both_run_sequence Distributor a b e = tt
-both_run_sequence Sequencer a b e = inl e
 
 pub both_stopped_sequence : (k : Kind) (a b : Means) → a.phase ≡ Stopped → InSequence k a b
 both_stopped_sequence Distributor a b e = tt
@@ -52,38 +44,88 @@ join_lowered d a b sa sb h = record {
   same_tags = refl;
 }
 
+-- lower and raise act on the join's own channel alone
+module _ (p : Phase) (d : Option ℕ) (a b : Means) (h : Together p d a b) where
+  pub together_lowered : Together (end_lowered (record { phase = p; denier = d })).phase (end_lowered (record { phase = p; denier = d })).denier a b
+  together_lowered = by p h
+    where
+      by : (p : Phase) → Together p d a b
+          → Together (end_lowered (record { phase = p; denier = d })).phase (end_lowered (record { phase = p; denier = d })).denier a b
+      by Run h = (inl h.first, inl h.second)
+      by Request h = h
+      by Stopped h = h
+      by Exit h = h
+      by Denied h = h
+      by Continue h = h
+
+  pub together_raised : Together (end_raised (record { phase = p; denier = d })).phase (end_raised (record { phase = p; denier = d })).denier a b
+  together_raised = by p h
+    where
+      by : (p : Phase) → Together p d a b
+          → Together (end_raised (record { phase = p; denier = d })).phase (end_raised (record { phase = p; denier = d })).denier a b
+      by Run h = h
+      by Request h = h
+      by Stopped h = let f : a.phase ≡ Stopped = h.0.first in (inl h.0.first, inl h.0.second, grind arith, h.1)
+      by Exit h = h
+      by Denied h = h
+      by Continue h = h
+
+  pub lowers : Sound a → Sound b
+      → Lowered (joined p d a b) (joined (end_lowered (record { phase = p; denier = d })).phase (end_lowered (record { phase = p; denier = d })).denier a b)
+  lowers sa sb = by p h
+    where
+      by : (p : Phase) → Together p d a b
+          → Lowered (joined p d a b) (joined (end_lowered (record { phase = p; denier = d })).phase (end_lowered (record { phase = p; denier = d })).denier a b)
+      by Run h = join_lowered d a b sa sb h
+      by Request h = refl
+      by Stopped h = refl
+      by Exit h = refl
+      by Denied h = refl
+      by Continue h = refl
+
+  pub raises :
+      Raised (joined p d a b) (joined (end_raised (record { phase = p; denier = d })).phase (end_raised (record { phase = p; denier = d })).denier a b)
+  raises = by p
+    where
+      by : (p : Phase)
+          → Raised (joined p d a b) (joined (end_raised (record { phase = p; denier = d })).phase (end_raised (record { phase = p; denier = d })).denier a b)
+      by Run = refl
+      by Request = refl
+      by Stopped = record { to = refl; keeps = refl; same_tags = refl }
+      by Exit = refl
+      by Denied = record { to = refl; keeps = refl; same_tags = refl }
+      by Continue = refl
+
 -- what became of one device in a step of its join
-pub record Went {S : Type 0} (o : S → Type 0) (m : S → Means) (t : S → Timing) (w : Drive) (x y : S) : Type 0 where
+pub record Went {S : Type 0} (m : S → Means) (t : S → Timing) (w : Drive) (x y : S) : Type 0 where
   pub mid : S
   pub drove : Drove w (m x) (m mid)
   pub undriven : w ≡ Nothing → mid ≡ x
   pub mid_bound : (t mid).bound ≡ (t x).bound
-  pub mid_kept : InOrder o m t mid
   pub stepped : Stepped (m mid) (m y)
   pub ticked : Ticked (m mid).phase (m y).phase (t mid) (t y)
-  pub kept : InOrder o m t y
 
-module _ {S : Type 0} (o : S → Type 0) (m : S → Means) (t : S → Timing) (w : Drive) (x y : S) where
-  pub went_turned : InOrder o m t x → (h : Went o m t w x y) → Turned w (m x) (m h.mid) (m y)
-  went_turned i h = record {
-    sound = i.sound;
+module _ {S : Type 0} (m : S → Means) (t : S → Timing) (l : (z : S) → InOrder m t z) (w : Drive) (x y : S) (h : Went m t w x y) where
+  pub went_turned : Turned w (m x) (m h.mid) (m y)
+  went_turned = record {
+    sound = (l x).sound;
     drove = h.drove;
-    sound_mid = h.mid_kept.sound;
+    sound_mid = (l h.mid).sound;
     stepped = h.stepped;
-    sound_after = h.kept.sound;
+    sound_after = (l y).sound;
   }
 
-  pub went_paced : InOrder o m t x → (h : Went o m t w x y) → Paced w (m x).phase (m y).phase (t x) (t h.mid) (t y)
-  went_paced i h =
-      let p = turned_phase w (m x) (m h.mid) (m y) (went_turned i h) in
+  pub went_paced : Paced w (m x).phase (m y).phase (t x) (t h.mid) (t y)
+  went_paced =
+      let p = turned_phase w (m x) (m h.mid) (m y) went_turned in
       record {
         to = p.1;
-        timely = i.timely;
+        timely = (l x).timely;
         undriven = λ e. ap t (h.undriven e);
         mid_bound = h.mid_bound;
-        timely_mid = subst (λ q. Timely q (t h.mid)) p.0 h.mid_kept.timely;
+        timely_mid = subst (λ q. Timely q (t h.mid)) p.0 (l h.mid).timely;
         ticked = subst (λ q. Ticked q (m y).phase (t h.mid) (t y)) p.0 h.ticked;
-        timely_after = h.kept.timely;
+        timely_after = (l y).timely;
       }
 
 -- a noted denier stays
@@ -96,125 +138,64 @@ stays Exit (Some t) a b = refl
 stays Denied (Some t) a b = refl
 stays Continue (Some t) a b = refl
 
-module _ {R A B : Type 0} (k : Kind) (oa : A → Type 0) (ma : A → Means) (ta : A → Timing)
-    (ob : B → Type 0) (mb : B → Means) (tb : B → Timing) where
-  abbrev Order : Join R A B → Type 0
-  Order = JoinOrder k oa ma ta ob mb tb
+module _ {R A B : Type 0} {r : rule.Ghosts R} {a : device.Ghosts A} {b : device.Ghosts B} where
+  pub held : (j : Join R A B r a b) → Together j.end.phase j.end.denier (a.means j.first) (b.means j.second)
+  held j = together_certain j.end.phase j.end.denier (a.means j.first) (b.means j.second) j.together
 
-  abbrev In : Join R A B → Type 0
-  In = Whole k oa ma ta ob mb tb
+  pub in_sequence : (j : Join R A B r a b) → InSequence r.KIND (a.means j.first) (b.means j.second)
+  in_sequence j = sequence_certain r.KIND (a.means j.first) (b.means j.second) j.sequence
 
-  -- a join whose devices are in order and go with it is in order as a whole
-  pub whole : (j : Join R A B) → Order j → In j
-  whole j o = record {
-    own = o;
-    sound = join_sound j.phase j.denier _ _ o.first.sound o.second.sound o.together;
-    timely = join_timely k j.phase j.denier _ _ _ _ (phases_at j.phase j.denier (ma j.first) (mb j.second) o.together) o.first.timely o.second.timely;
-  }
+-- a step of a join at phase p with denier d: the law over meanings and the law over bounds, put together
+pub record StepKept (k : Kind) (p : Phase) (d : Option ℕ) (a b x y : Means) (ta tb tx ty : Timing) : Type 0 where
+  pub order : Stepped (joined p d a b) (joined (phase_after p d x y) (denier_after p d x y) x y)
+  pub pace :
+      Ticked p (phase_after p d x y) (join_timing k p d a.phase ta b.phase tb)
+      (join_timing k (phase_after p d x y) (denier_after p d x y) x.phase tx y.phase ty)
+  pub together : Together (phase_after p d x y) (denier_after p d x y) x y
+  pub sequence : InSequence k x y
 
-  -- the same devices under another phase and denier
-  pub over : (j : Join R A B) (p : Phase) (d : Option ℕ) → Order j → Together p d (ma j.first) (mb j.second) → In (own j p d)
-  over j p d o t = whole (own j p d) (record { first = o.first; second = o.second; together = t; sequence = o.sequence })
-
-  pub lowers : (j : Join R A B) → j.phase ≡ Run → In j
-      → Lowered (join_means ma mb j) (join_means ma mb (own j Request None)) × In (own j Request None)
-  lowers j e w =
-      let h : Both Run (ma j.first) (mb j.second) =
-      subst (λ p. Together p j.denier (ma j.first) (mb j.second)) e w.own.together in (
-        subst (λ p. LoweredAt p (joined p j.denier (ma j.first) (mb j.second)) (join_means ma mb (own j Request None))) (sym e)
-            (join_lowered j.denier _ _ w.own.first.sound w.own.second.sound h),
-        over j Request None w.own (inl h.first, inl h.second),
-      )
-
-  pub wakes : (j : Join R A B) → j.phase ≡ Stopped → In j
-      → Raised (join_means ma mb j) (join_means ma mb (own j Exit j.denier)) × In (own j Exit j.denier)
-  wakes j e w =
-      let h : Both Stopped (ma j.first) (mb j.second) × (j.denier ≡ None) =
-      subst (λ p. Together p j.denier (ma j.first) (mb j.second)) e w.own.together in
-      let f : (ma j.first).phase ≡ Stopped = h.0.first in (
-        subst (λ p. RaisedAt p (joined p j.denier (ma j.first) (mb j.second)) (join_means ma mb (own j Exit j.denier))) (sym e)
-            (record { to = refl; keeps = refl; same_tags = refl }),
-        over j Exit j.denier w.own (inl h.0.first, inl h.0.second, grind arith, h.1),
-      )
-
-  pub withdraws : (j : Join R A B) → j.phase ≡ Denied → In j
-      → Raised (join_means ma mb j) (join_means ma mb (own j Continue j.denier)) × In (own j Continue j.denier)
-  withdraws j e w =
-      let h : Both Run (ma j.first) (mb j.second) × Has j.denier =
-      subst (λ p. Together p j.denier (ma j.first) (mb j.second)) e w.own.together in (
-        subst (λ p. RaisedAt p (joined p j.denier (ma j.first) (mb j.second)) (join_means ma mb (own j Continue j.denier))) (sym e)
-            (record { to = refl; keeps = refl; same_tags = refl }),
-        over j Continue j.denier w.own h,
-      )
-
-  -- a join over two devices just reset
-  pub resets : (i j : Join R A B) → Reset (ma i.first) (ma j.first) → Reset (mb i.second) (mb j.second)
-      → InOrder oa ma ta j.first → InOrder ob mb tb j.second → j.phase ≡ Stopped → j.denier ≡ None
-      → Reset (join_means ma mb i) (join_means ma mb j) × In j
-  resets i j ra rb fa fb e n = (
-    record {
-      to = e;
-      all_stopped = each_++ _ (ma j.first).leaves (mb j.second).leaves ra.all_stopped rb.all_stopped;
-      none = n;
-      same_tags = tags-++ (ma j.first).leaves (mb j.second).leaves
-          ∙ (rw (ra.same_tags, rb.same_tags) (sym (tags-++ (ma i.first).leaves (mb i.second).leaves)));
-    },
-    whole j (record {
-      first = fa;
-      second = fb;
-      together = subst (λ p. Together p j.denier (ma j.first) (mb j.second)) (sym e)
-          (record { first = ra.to; second = rb.to }, n);
-      sequence = both_stopped_sequence k _ _ ra.to;
-    }),
-  )
-
-  -- a step of a join: the law over meanings and the law over bounds, put together
-  pub record StepKept (i j : Join R A B) : Type 0 where
-    pub order : Stepped (join_means ma mb i) (join_means ma mb j)
-    pub pace : Ticked i.phase j.phase (join_time k ma ta mb tb i) (join_time k ma ta mb tb j)
-    pub kept : In j
-
-  pub steps : (i j : Join R A B)
-      → (InOrder oa ma ta i.first
-      → Went oa ma ta (first_drive k i.phase (is_some i.denier) (ma i.first).phase (mb i.second).phase) i.first j.first)
-      → (InOrder ob mb tb i.second
-      → Went ob mb tb (second_drive k i.phase (is_some i.denier) (ma i.first).phase (mb i.second).phase) i.second j.second)
-      → j.denier ≡ denier_after i.phase i.denier (ma j.first) (mb j.second)
-      → j.phase ≡ phase_after i.phase i.denier (ma j.first) (mb j.second)
-      → In i → StepKept i j
-  steps i j of-first of-second n p w =
-      let f = of-first w.own.first in
-      let s = of-second w.own.second in
-      let a = ma i.first in
-      let b = mb i.second in
-      let x = ma j.first in
-      let y = mb j.second in
-      let q = i.phase in
-      let d = i.denier in
-      let ft = went_turned oa ma ta _ i.first j.first w.own.first f in
-      let st = went_turned ob mb tb _ i.second j.second w.own.second s in
-      let pair : Pair q d a x b y = record {
+-- both devices driven as the join's rule says, then stepped
+module _ {A B : Type 0} (k : Kind) (ma : A → Means) (ta : A → Timing) (mb : B → Means) (tb : B → Timing)
+    (la : (z : A) → InOrder ma ta z) (lb : (z : B) → InOrder mb tb z) (p : Phase) (d : Option ℕ) (i m x : A) (j n y : B) (w v : Drive) where
+  pub steps : Together p d (ma i) (mb j) → InSequence k (ma i) (mb j)
+      → w ≡ first_drive k p (is_some d) (ma i).phase (mb j).phase → v ≡ second_drive k p (is_some d) (ma i).phase (mb j).phase
+      → Drove w (ma i) (ma m) → (w ≡ Nothing → m ≡ i) → (ta m).bound ≡ (ta i).bound
+      → Stepped (ma m) (ma x) → Ticked (ma m).phase (ma x).phase (ta m) (ta x)
+      → Drove v (mb j) (mb n) → (v ≡ Nothing → n ≡ j) → (tb n).bound ≡ (tb j).bound
+      → Stepped (mb n) (mb y) → Ticked (mb n).phase (mb y).phase (tb n) (tb y)
+      → StepKept k p d (ma i) (mb j) (ma x) (mb y) (ta i) (tb j) (ta x) (tb y)
+  steps h sq ew ev fd fi fb fs ft gd gi gb gs gt =
+      let f : Went ma ta (first_drive k p (is_some d) (ma i).phase (mb j).phase) i x =
+      subst (λ u. Went ma ta u i x) ew (record { mid = m; drove = fd; undriven = fi; mid_bound = fb; stepped = fs; ticked = ft }) in
+      let s : Went mb tb (second_drive k p (is_some d) (ma i).phase (mb j).phase) j y =
+      subst (λ u. Went mb tb u j y) ev (record { mid = n; drove = gd; undriven = gi; mid_bound = gb; stepped = gs; ticked = gt }) in
+      let a = went_turned ma ta la _ i x f in
+      let b = went_turned mb tb lb _ j y s in
+      let pair : Pair p d (ma i) (ma x) (mb j) (mb y) = record {
         to_first = _;
         to_second = _;
         first_mid = _;
         second_mid = _;
-        together = w.own.together;
-        first_may = first_may k q (is_some d) a.phase b.phase;
-        second_may = second_may k q (is_some d) a.phase b.phase;
-        first = ft;
-        second = st;
+        together = h;
+        first_may = first_may k p (is_some d) (ma i).phase (mb j).phase;
+        second_may = second_may k p (is_some d) (ma i).phase (mb j).phase;
+        first = a;
+        second = b;
       } in
       record {
-        order = rw (n, p) (join_stepped q d a x b y pair);
-        pace = rw (n, p)
-            (join_ticked k a.phase x.phase b.phase y.phase _ _ _ _ _ _ q d (denier_after q d x y)
-            (phases_at q d a b w.own.together) (sequence_at k a b w.own.sequence) (stays q d x y)
-            (went_paced oa ma ta _ i.first j.first w.own.first f)
-            (went_paced ob mb tb _ i.second j.second w.own.second s));
-        kept = whole j (record {
-          first = f.kept;
-          second = s.kept;
-          together = rw (n, p) (keeps_together q d a x b y pair);
-          sequence = keeps_sequence k q (is_some d) a _ x b _ y w.own.sequence ft st;
-        });
+        order = join_stepped p d (ma i) (ma x) (mb j) (mb y) pair;
+        pace = join_ticked k (ma i).phase (ma x).phase (mb j).phase (mb y).phase _ _ _ _ _ _ p d (denier_after p d (ma x) (mb y))
+            (phases_at p d (ma i) (mb j) h) (sequence_at k (ma i) (mb j) sq) (stays p d (ma x) (mb y))
+            (went_paced ma ta la _ i x f) (went_paced mb tb lb _ j y s);
+        together = keeps_together p d (ma i) (ma x) (mb j) (mb y) pair;
+        sequence = keeps_sequence k p (is_some d) (ma i) _ (ma x) (mb j) _ (mb y) sq a b;
       }
+
+-- a join over two devices just reset
+pub resets : (p : Phase) (d : Option ℕ) (a x b y : Means) → Reset a x → Reset b y → Reset (joined p d a b) (joined Stopped None x y)
+resets p d a x b y ra rb = record {
+  to = refl;
+  all_stopped = each_++ _ x.leaves y.leaves ra.all_stopped rb.all_stopped;
+  none = refl;
+  same_tags = tags-++ x.leaves y.leaves ∙ (rw (ra.same_tags, rb.same_tags) (sym (tags-++ a.leaves b.leaves)));
+}

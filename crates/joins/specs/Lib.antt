@@ -2,5 +2,9 @@ pub mod Rules
 pub mod Turns
 pub mod Together
 pub mod Bounds
+pub mod Certain
 pub mod Join
 pub mod Jobs
+pub mod Leaves
+pub mod Ordered
+pub mod Shows

@@ -1,131 +1,51 @@
 // Distributor and sequencer over any two devices. They differ in their drives alone.
-ghost use Rattle.std.specs.Prelude.{◌≡◌};
-ghost use Rattle.channel.specs.Device.{InOrder};
-ghost use Rattle.channel.specs.declared.device.Call.TheVariants.{Restart};
-ghost use Rattle.joins.specs.declared.rules.Kind.{Kind};
-ghost use Rattle.joins.specs.declared.rules.Kind.TheVariants as kinds;
-ghost use Rattle.joins.specs.Rules.{DriveMakes};
-ghost use Rattle.joins.specs.Turns.{Drove};
-ghost use Rattle.joins.specs.declared.rules.Drive.TheVariants.{Nothing};
-ghost use Rattle.pile.specs.OfQ.{q_view};
-ghost use Rattle.pile.specs.Views.{Begun};
-ghost use Rattle.pile.specs.Runs.{Fit};
-ghost use Rattle.joins.specs.Join.{join_means, join_time, JoinOrder, Whole, join_makes, Made, Holds};
+ghost use Rattle.joins.specs.Together.{Together, InSequence};
 
-use crate::rules::{Drive, Kind, decide, first_drive, heard_of, note, second_drive};
+use crate::drive::make_drive;
+use crate::rule::{Parallel, Rule, Serial};
+use crate::rules::{decide, first_drive, note, second_drive};
 use channel::device::{QDevice, Refusal};
+use channel::end::QEnd;
 use channel::phase::Phase;
+use std::marker::PhantomData;
 
-// Which drives a join gives.
-pub trait Rule {
-    ghost kind: { Kind };
-
-    fn kind(&self) -> Kind
-        ensures { result ≡ kind };
-}
-
-// Both devices side by side.
-#[derive(Clone, Copy)]
-pub struct Parallel;
-
-impl Rule for Parallel {
-    ghost kind = { kinds.Distributor };
-
-    fn kind(&self) -> Kind {
-        Kind::Distributor
-    }
-}
-
-// The first device stops before the second, and returns after it.
-#[derive(Clone, Copy)]
-pub struct Serial;
-
-impl Rule for Serial {
-    ghost kind = { kinds.Sequencer };
-
-    fn kind(&self) -> Kind {
-        Kind::Sequencer
-    }
-}
-
+// The join's own end goes with its two devices, and below a sequencer these are in their order.
 #[derive(Drop)]
-pub struct Join<R, A, B> {
-    rule: R,
-    phase: Phase,
-    denier: Option<u32>,
+pub struct Join<R: Rule, A: QDevice, B: QDevice> {
+    rule: PhantomData<R>,
+    end: QEnd,
     pub(crate) first: A,
     pub(crate) second: B,
+    ghost together: { ∥ Together end.phase end.denier (A.means first) (B.means second) ∥₁ },
+    ghost sequence: { ∥ InSequence R.KIND (A.means first) (B.means second) ∥₁ },
 }
 
 pub type Distributor<A, B> = Join<Parallel, A, B>;
 
 pub type Sequencer<A, B> = Join<Serial, A, B>;
 
-// Gives a device its drive.
-pub fn make_drive<D: QDevice>(device: &mut D, drive: Drive)
-    ensures exact { DriveMakes D.QDevice.makes drive device.old device.new }
-    ensures order { InOrder D.QDevice.ordered D.QDevice.means D.QDevice.timing device.old → Drove drive (D.QDevice.means device.old) (D.QDevice.means device.new) }
-    ensures bound { (D.QDevice.timing device.new).bound ≡ (D.QDevice.timing device.old).bound }
-    ensures idle { drive ≡ Nothing → device.new ≡ device.old }
-    ensures kept { InOrder D.QDevice.ordered D.QDevice.means D.QDevice.timing device.old → InOrder D.QDevice.ordered D.QDevice.means D.QDevice.timing device.new }
-{
-    match drive {
-        Drive::Nothing => {}
-        Drive::Lower => {
-            let _ = device.lower();
-        }
-        Drive::Raise => {
-            let _ = device.raise();
-        }
-    }
-}
+impl<R: Rule, A: QDevice, B: QDevice> Join<R, A, B> {
+    ghost use Rattle.std.specs.Prelude.{◌≡◌};
+    ghost use Rattle.pile.specs.Views.{Begun};
+    ghost use Rattle.joins.specs.Join.{Made, Holds};
+    ghost use Rattle.joins.specs.Shows.{join_view};
 
-// Joins two devices, and resets both.
-fn over<R: Rule, A: QDevice, B: QDevice>(rule: R, mut first: A, mut second: B) -> Join<R, A, B>
-    ensures made { Made A.QDevice.makes B.QDevice.makes rule first second result }
-    ensures holds { Holds R.Rule.kind A.QDevice.means A.QDevice.timing B.QDevice.means B.QDevice.timing first second result }
-    ensures kept { Whole R.Rule.kind A.QDevice.ordered A.QDevice.means A.QDevice.timing B.QDevice.ordered B.QDevice.means B.QDevice.timing result }
-    ensures begun { Begun (q_view (join_means A.QDevice.means B.QDevice.means result)) }
-    ensures fit { Fit (JoinOrder R.Rule.kind A.QDevice.ordered A.QDevice.means A.QDevice.timing B.QDevice.ordered B.QDevice.means B.QDevice.timing) (λ j. q_view (join_means A.QDevice.means B.QDevice.means j)) (join_time R.Rule.kind A.QDevice.means A.QDevice.timing B.QDevice.means B.QDevice.timing) result }
-{
-    first.reset();
-    second.reset();
-    Join {
-        rule,
-        phase: Phase::Stopped,
-        denier: None,
-        first,
-        second,
-    }
-}
-
-impl<A: QDevice, B: QDevice> Join<Parallel, A, B> {
-    // A distributor over two devices, which it resets. It starts at Stopped.
-    pub fn new(first: A, second: B) -> Self
-        ensures made { Made A.QDevice.makes B.QDevice.makes result.rule first second result }
-        ensures holds { Holds kinds.Distributor A.QDevice.means A.QDevice.timing B.QDevice.means B.QDevice.timing first second result }
-        ensures kept { Whole kinds.Distributor A.QDevice.ordered A.QDevice.means A.QDevice.timing B.QDevice.ordered B.QDevice.means B.QDevice.timing result }
-        ensures begun { Begun (q_view (join_means A.QDevice.means B.QDevice.means result)) }
-        ensures fit { Fit (JoinOrder kinds.Distributor A.QDevice.ordered A.QDevice.means A.QDevice.timing B.QDevice.ordered B.QDevice.means B.QDevice.timing) (λ j. q_view (join_means A.QDevice.means B.QDevice.means j)) (join_time kinds.Distributor A.QDevice.means A.QDevice.timing B.QDevice.means B.QDevice.timing) result }
+    // A join over two devices, which it resets. It starts at Stopped.
+    pub fn new(mut first: A, mut second: B) -> Self
+        ensures made { Made first second result }
+        ensures holds { Holds first second result }
+        ensures begun { Begun (join_view result) }
     {
-        over(Parallel, first, second)
+        first.reset();
+        second.reset();
+        Join {
+            rule: PhantomData,
+            end: QEnd::at_rest(),
+            first,
+            second,
+        }
     }
-}
 
-impl<A: QDevice, B: QDevice> Join<Serial, A, B> {
-    // A sequencer over two devices, which it resets. It starts at Stopped.
-    pub fn new(first: A, second: B) -> Self
-        ensures made { Made A.QDevice.makes B.QDevice.makes result.rule first second result }
-        ensures holds { Holds kinds.Sequencer A.QDevice.means A.QDevice.timing B.QDevice.means B.QDevice.timing first second result }
-        ensures kept { Whole kinds.Sequencer A.QDevice.ordered A.QDevice.means A.QDevice.timing B.QDevice.ordered B.QDevice.means B.QDevice.timing result }
-        ensures begun { Begun (q_view (join_means A.QDevice.means B.QDevice.means result)) }
-        ensures fit { Fit (JoinOrder kinds.Sequencer A.QDevice.ordered A.QDevice.means A.QDevice.timing B.QDevice.ordered B.QDevice.means B.QDevice.timing) (λ j. q_view (join_means A.QDevice.means B.QDevice.means j)) (join_time kinds.Sequencer A.QDevice.means A.QDevice.timing B.QDevice.means B.QDevice.timing) result }
-    {
-        over(Serial, first, second)
-    }
-}
-
-impl<R, A, B> Join<R, A, B> {
     // The device that is driven and noted first.
     pub fn first(&self) -> &A
         ensures { result.now ≡ self.now.first }
@@ -141,78 +61,47 @@ impl<R, A, B> Join<R, A, B> {
 }
 
 impl<R: Rule, A: QDevice, B: QDevice> QDevice for Join<R, A, B> {
-    ghost means = { join_means A.QDevice.means B.QDevice.means };
+    ghost use Rattle.joins.specs.Join.{join_means, join_time, join_makes};
+    ghost use Rattle.joins.specs.Ordered.{join_in_order};
 
-    ghost timing = { join_time R.Rule.kind A.QDevice.means A.QDevice.timing B.QDevice.means B.QDevice.timing };
+    ghost means = { join_means };
 
-    ghost ordered = { JoinOrder R.Rule.kind A.QDevice.ordered A.QDevice.means A.QDevice.timing B.QDevice.ordered B.QDevice.means B.QDevice.timing };
+    ghost timing = { join_time };
 
-    ghost makes = { join_makes R.Rule.kind A.QDevice.means A.QDevice.makes B.QDevice.means B.QDevice.makes };
+    ghost makes = { join_makes };
+
+    ghost in_order = { join_in_order A.in_order B.in_order };
 
     fn phase(&self) -> Phase {
-        self.phase // of its own channel
+        self.end.phase // of its own channel
     }
 
     fn denier(&self) -> Option<u32> {
-        self.denier // of the latest request
+        self.end.denier // of the latest request
     }
 
     fn lower(&mut self) -> Result<(), Refusal> {
-        match self.phase {
-            Phase::Run => {
-                self.phase = Phase::Request;
-                self.denier = None;
-                Ok(())
-            }
-            _ => Err(Refusal::LowerNotAtRun),
-        }
+        self.end.lower()
     }
 
     fn raise(&mut self) -> Result<(), Refusal> {
-        match self.phase {
-            Phase::Stopped => {
-                self.phase = Phase::Exit;
-                Ok(())
-            }
-            Phase::Denied => {
-                self.phase = Phase::Continue;
-                Ok(())
-            }
-            _ => Err(Refusal::RaiseNotHeld),
-        }
+        self.end.raise()
     }
 
     fn step(&mut self) {
-        let kind = self.rule.kind();
-        let own = self.phase;
-        let noted = self.denier.is_some();
-        let first = self.first.phase();
-        let second = self.second.phase();
-        make_drive(
-            &mut self.first,
-            first_drive(kind, own, noted, first, second),
-        );
-        make_drive(
-            &mut self.second,
-            second_drive(kind, own, noted, first, second),
-        );
+        let own = self.end;
+        let (first, second) = (self.first.phase(), self.second.phase());
+        make_drive(&mut self.first, first_drive(R::KIND, own, first, second));
+        make_drive(&mut self.second, second_drive(R::KIND, own, first, second));
         self.first.step();
         self.second.step();
-        let first_tells = heard_of(self.first.phase(), self.first.denier());
-        let second_tells = heard_of(self.second.phase(), self.second.denier());
-        self.denier = note(own, self.denier, first_tells, second_tells);
-        self.phase = decide(
-            own,
-            self.denier.is_some(),
-            self.first.phase(),
-            self.second.phase(),
-        );
+        self.end.denier = note(own, self.first.end(), self.second.end());
+        self.end.phase = decide(self.end, self.first.phase(), self.second.phase());
     }
 
     fn reset(&mut self) {
         self.first.reset();
         self.second.reset();
-        self.phase = Phase::Stopped;
-        self.denier = None;
+        self.end = QEnd::at_rest();
     }
 }

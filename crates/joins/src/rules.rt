@@ -1,7 +1,8 @@
 // The rules of a join: which drive each device gets, whose denier is noted, where the join goes.
-ghost use Rattle.std.specs.Prelude.{◌≡◌};
-ghost use Rattle.joins.specs.Rules.{first_drive, second_drive, lower_run, raise_stopped, raise_denied, raise_held, while_at, heard, noted_from, decided};
+ghost use Rattle.std.specs.Prelude.{◌≡◌, is_some};
+ghost use Rattle.joins.specs.Rules.{first_drive, second_drive, heard, noted_from, decided};
 
+use channel::end::QEnd;
 use channel::phase::Phase;
 
 #[derive(Clone, Copy, PartialEq, Eq, Debug)]
@@ -18,120 +19,67 @@ pub enum Drive {
     Raise,
 }
 
-// Lowers a device at Run.
-fn lower_run(at: Phase) -> Drive
-    ensures { result ≡ lower_run at }
+// What the first device is driven to, from the devices' phases before the step.
+pub fn first_drive(kind: Kind, own: QEnd, first: Phase, second: Phase) -> Drive
+    ensures { result ≡ first_drive kind own.phase (is_some own.denier) first second }
 {
-    match at {
-        Phase::Run => Drive::Lower,
+    match (kind, own.phase, own.denier, first, second) {
+        (_, Phase::Request, None, Phase::Run, _) => Drive::Lower,
+        (Kind::Distributor, Phase::Request, Some(_), Phase::Stopped | Phase::Denied, _) =>
+            Drive::Raise,
+        (Kind::Sequencer, Phase::Request, Some(_), Phase::Stopped | Phase::Denied, Phase::Run) =>
+            Drive::Raise,
+        (Kind::Distributor, Phase::Exit, _, Phase::Stopped, _) => Drive::Raise,
+        (Kind::Sequencer, Phase::Exit, _, Phase::Stopped, Phase::Run) => Drive::Raise,
         _ => Drive::Nothing,
     }
 }
 
-// Raises a device at Stopped.
-fn raise_stopped(at: Phase) -> Drive
-    ensures { result ≡ raise_stopped at }
+// What the second device is driven to, from the devices' phases before the step.
+pub fn second_drive(kind: Kind, own: QEnd, first: Phase, second: Phase) -> Drive
+    ensures { result ≡ second_drive kind own.phase (is_some own.denier) first second }
 {
-    match at {
-        Phase::Stopped => Drive::Raise,
-        _ => Drive::Nothing,
-    }
-}
-
-// Raises a device at Denied.
-fn raise_denied(at: Phase) -> Drive
-    ensures { result ≡ raise_denied at }
-{
-    match at {
-        Phase::Denied => Drive::Raise,
-        _ => Drive::Nothing,
-    }
-}
-
-// Raises a device at Stopped or Denied.
-fn raise_held(at: Phase) -> Drive
-    ensures { result ≡ raise_held at }
-{
-    match at {
-        Phase::Stopped | Phase::Denied => Drive::Raise,
-        _ => Drive::Nothing,
-    }
-}
-
-// The drive, given only while the other device stands at one phase.
-fn while_at(other: Phase, wanted: Phase, drive: Drive) -> Drive
-    ensures { result ≡ while_at other wanted drive }
-{
-    if other == wanted {
-        drive
-    } else {
-        Drive::Nothing
-    }
-}
-
-// What the first device is driven to, from the phases before the step.
-pub fn first_drive(kind: Kind, own: Phase, noted: bool, first: Phase, second: Phase) -> Drive
-    ensures { result ≡ first_drive kind own noted first second }
-{
-    match (kind, own, noted) {
-        (_, Phase::Request, false) => lower_run(first),
-        (Kind::Distributor, Phase::Request, true) => raise_held(first),
-        (Kind::Sequencer, Phase::Request, true) => while_at(second, Phase::Run, raise_held(first)),
-        (Kind::Distributor, Phase::Exit, _) => raise_stopped(first),
-        (Kind::Sequencer, Phase::Exit, _) => while_at(second, Phase::Run, raise_stopped(first)),
-        _ => Drive::Nothing,
-    }
-}
-
-// What the second device is driven to, from the phases before the step.
-pub fn second_drive(kind: Kind, own: Phase, noted: bool, first: Phase, second: Phase) -> Drive
-    ensures { result ≡ second_drive kind own noted first second }
-{
-    match (kind, own, noted) {
-        (Kind::Distributor, Phase::Request, false) => lower_run(second),
-        (Kind::Sequencer, Phase::Request, false) => while_at(
-            first,
-            Phase::Stopped,
-            lower_run(second),
-        ),
-        (Kind::Distributor, Phase::Request, true) => raise_held(second),
-        (Kind::Sequencer, Phase::Request, true) => raise_denied(second),
-        (_, Phase::Exit, _) => raise_stopped(second),
+    match (kind, own.phase, own.denier, first, second) {
+        (Kind::Distributor, Phase::Request, None, _, Phase::Run) => Drive::Lower,
+        (Kind::Sequencer, Phase::Request, None, Phase::Stopped, Phase::Run) => Drive::Lower,
+        (Kind::Distributor, Phase::Request, Some(_), _, Phase::Stopped | Phase::Denied) =>
+            Drive::Raise,
+        (Kind::Sequencer, Phase::Request, Some(_), _, Phase::Denied) => Drive::Raise,
+        (_, Phase::Exit, _, _, Phase::Stopped) => Drive::Raise,
         _ => Drive::Nothing,
     }
 }
 
 // The denier that a device tells of the request at hand: one at Request or Denied.
 // Elsewhere its denier is that of an older request.
-pub fn heard_of(at: Phase, denier: Option<u32>) -> Option<u32>
-    ensures { result ≡ heard at denier }
+pub fn heard_of(device: QEnd) -> Option<u32>
+    ensures { result ≡ heard device.phase device.denier }
 {
-    match at {
-        Phase::Request | Phase::Denied => denier,
+    match device.phase {
+        Phase::Request | Phase::Denied => device.denier,
         _ => None,
     }
 }
 
 // A join at Request without a denier notes what the first device tells, else what the second does.
-pub fn note(own: Phase, denier: Option<u32>, first: Option<u32>, second: Option<u32>) -> Option<u32>
-    ensures { result ≡ noted_from own denier first second }
+pub fn note(own: QEnd, first: QEnd, second: QEnd) -> Option<u32>
+    ensures { result ≡ noted_from own.phase own.denier (heard first.phase first.denier) (heard second.phase second.denier) }
 {
-    match (own, denier, first) {
-        (Phase::Request, None, Some(tag)) => Some(tag),
-        (Phase::Request, None, None) => second,
-        _ => denier,
+    match own.phase {
+        Phase::Request => own.denier.or(heard_of(first)).or(heard_of(second)),
+        _ => own.denier,
     }
 }
 
 // Where the join goes, from the phases after its devices' steps.
-pub fn decide(own: Phase, noted: bool, first: Phase, second: Phase) -> Phase
-    ensures { result ≡ decided own noted first second }
+pub fn decide(own: QEnd, first: Phase, second: Phase) -> Phase
+    ensures { result ≡ decided own.phase (is_some own.denier) first second }
 {
-    match (own, first, second) {
+    match (own.phase, first, second) {
         (Phase::Request, Phase::Stopped, Phase::Stopped) => Phase::Stopped,
-        (Phase::Request, Phase::Run, Phase::Run) if noted => Phase::Denied,
+        (Phase::Request, Phase::Run, Phase::Run) if own.denier.is_some() => Phase::Denied,
         (Phase::Exit, Phase::Run, Phase::Run) => Phase::Run,
         (Phase::Continue, _, _) => Phase::Run,
-        _ => own,
+        _ => own.phase,
     }
 }

@@ -18,8 +18,6 @@ pub trait Pile {
 
     ghost timing: { Self → Timing };
 
-    ghost ordered: { Self → Type 0 };
-
     // what this value has to be to count as a pile
     ghost piled: { Self → Type 0 };
 
@@ -37,20 +35,23 @@ pub trait Pile {
     fn restart(&mut self)
         ensures exact { resets self.old self.new }
         ensures begun { piled self.old → Begun (view self.new) }
-        ensures fit { piled self.old → Fit ordered view timing self.new };
+        ensures kept { piled self.old → piled self.new };
 
     // Makes one of the pile's own calls.
     fn make(&mut self, call: Self::Call) -> Result<(), Self::Refusal>
         ensures answer { result ≡ answer call self.old }
         ensures exact { makes call (is_ok result) self.old self.new }
-        ensures linked { Fit ordered view timing self.old → Linked ordered view timing (kind call) (is_ok result) self.old self.new };
+        ensures linked { piled self.old → Linked piled view timing (kind call) (is_ok result) self.old self.new };
+
+    // what a pile shows is so, and a change that is under way has steps left
+    ghost fits: { (p : Self) → piled p → Fit piled view timing p };
 }
 
 // Resets a pile and makes these calls, one after the other. Whatever they are and whatever its devices
 // answer: what is shown is so, a denial has its leaf, and every change ends in time.
 pub fn play<P: Pile>(pile: &mut P, calls: &[P::Call])
-    ensures promised { P.Pile.piled pile.old → Promised P.Pile.ordered P.Pile.view P.Pile.timing P.Pile.kind P.Pile.makes P.Pile.resets calls.now pile.old pile.new }
-    ensures every { Every P.Pile.ordered P.Pile.view P.Pile.timing P.Pile.kind P.Pile.makes }
+    ensures promised { P.piled pile.old → Promised P.piled P.view P.timing P.kind P.makes P.resets calls.now pile.old pile.new }
+    ensures every { Every P.piled P.view P.timing P.kind P.makes }
 {
     pile.restart();
     for call in calls {

@@ -15,14 +15,14 @@ loop-call-preserved g c = λ f.
     let more : take (i + 1) c.args.calls.now ≡ take i c.args.calls.now ++ (item ∷ []) =
     take_more c.args.calls.now i item c.loop-call-test.true
     ∙ ap (λ x. take i c.args.calls.now ++ (x ∷ [])) (sym c.call-item.is) in
-    subst (λ cs. Ran g.P.Pile.ordered g.P.Pile.view g.P.Pile.timing g.P.Pile.kind g.P.Pile.makes cs
+    subst (λ cs. Ran g.P.Pile.piled g.P.Pile.view g.P.Pile.timing g.P.Pile.kind g.P.Pile.makes cs
     c.restart.new.self c.make.new.self) (sym more)
-    (ran_more _ _ _ _ _ _ _ _ _ item _ r c.make.ensures.exact (c.make.ensures.linked r.fit))
+    (ran_more _ _ _ _ _ _ _ _ _ item _ r c.make.ensures.exact (c.make.ensures.linked r.fit.own))
 
 pub returns : goal.returns
 returns g c = record {
   promised = λ p.
-      let f = c.restart.ensures.fit p in
+      let f = g.met.P.Pile.fits c.restart.new.self (c.restart.ensures.kept p) in
       let r = c.loop-call.invariant f in
       record {
         begin = c.restart.new.self;

@@ -1,12 +1,8 @@
-use Rattle.std.proofs.Common.{refl, rules}
-use Rattle.joins.proofs.Whole.{lowers}
+use Rattle.joins.proofs.Whole.{held, lowers}
 use Rattle.joins.proofs.join.JoinQDevice.lower.Goals as goal
 
-pub returns-in-Run : goal.returns-in-Run
-returns-in-Run g c = record {
-  answer = search rules;
-  exact = search rules;
-  order = λ o. (lowers _ _ _ _ _ _ _ _ c.in-Run.is o).0;
-  pace = refl;
-  kept = λ o. (lowers _ _ _ _ _ _ _ _ c.in-Run.is o).1;
-}
+pub returns-clause-order : goal.returns-clause-order
+returns-clause-order g c =
+    let i = c.args.self.now in
+    rw c.lower.ensures.end (lowers i.end.phase i.end.denier _ _ (held i)
+    (g.met.A.QDevice.in_order i.first).sound (g.met.B.QDevice.in_order i.second).sound)

@@ -2,18 +2,20 @@
 use Rattle.std.proofs.Common.{◌≡◌, ℕ, None, Option, ap, subst, arith}
 use Rattle.channel.specs.declared.phase.Phase.{Phase}
 use Rattle.channel.specs.declared.phase.Phase.TheVariants.{Run, Request, Stopped, Exit, Denied, Continue}
+use Rattle.channel.specs.declared.device.QDevice as device
 use Rattle.channel.specs.Means.{Means, Each, Sound}
 use Rattle.channel.specs.Timing.{Timing, Timely}
-use Rattle.pile.specs.Views.{q_end, shows, Opened, Truly, InTime, Begun}
+use Rattle.channel.specs.Device.{InOrder}
+use Rattle.pile.specs.Views.{View, q_end, shows, Opened, Truly, InTime, Begun}
 use Rattle.pile.specs.OfQ.{q_view}
 use Rattle.pile.specs.Runs.{Fit}
-use Rattle.joins.specs.declared.rules.Kind.{Kind}
+use Rattle.joins.specs.declared.rule.Rule as rule
 use Rattle.joins.specs.declared.join.Join.{Join}
 use Rattle.joins.specs.Together.{joined, Both, Together}
-use Rattle.joins.specs.Join.{join_means, join_time, JoinOrder}
-use Rattle.joins.proofs.Leaves.{each_++}
-use Rattle.joins.proofs.Order.{join_sound, run_each}
-use Rattle.joins.proofs.Whole.{whole}
+use Rattle.joins.specs.Join.{join_means, join_time}
+use Rattle.joins.specs.Certain.{together_certain}
+use Rattle.joins.specs.Leaves.{each_++}
+use Rattle.joins.specs.Ordered.{join_sound, join_in_order, run_each}
 
 both_each : (a b : Means) → Sound a → Sound b → Both Run a b → Each (λ p. p ≡ Run) (joined Run None a b).leaves
 both_each a b sa sb h = each_++ _ a.leaves b.leaves (run_each a sa h.first) (run_each b sb h.second)
@@ -46,22 +48,25 @@ join_truly Continue d a b sa sb h = record {
 pub q_in_time : (p : Phase) (t : Timing) → Timely p t → InTime (q_end p) t
 q_in_time p t h = record { some_left = grind arith; at_most = grind arith }
 
-module _ {R A B : Type 0} (k : Kind) (oa : A → Type 0) (ma : A → Means) (ta : A → Timing)
-    (ob : B → Type 0) (mb : B → Means) (tb : B → Timing) where
-  pub join_fit : (j : Join R A B) → JoinOrder k oa ma ta ob mb tb j
-      → Fit (JoinOrder k oa ma ta ob mb tb) (λ i. q_view (join_means ma mb i)) (join_time k ma ta mb tb) j
-  join_fit j o = record {
-    own = o;
-    truly = join_truly j.phase j.denier _ _ o.first.sound o.second.sound o.together;
-    in_time = q_in_time j.phase _ (whole k oa ma ta ob mb tb j o).timely;
-  }
+-- a device just reset is where a run begins
+pub rest_begun : (m : Means) → m.phase ≡ Stopped → Each (λ p. p ≡ Stopped) m.leaves → m.denier ≡ None → Begun (q_view m)
+rest_begun m e s n = record {
+  shows_stopped = ap (λ p. shows (q_end p)) e;
+  closed = λ o. elim (subst (λ p. Opened (q_end p)) e o) [ ];
+  all_stopped = s;
+  none = n;
+}
 
-  -- a join just reset is where a run begins
-  pub join_begun : (j : Join R A B) → j.phase ≡ Stopped → Each (λ p. p ≡ Stopped) (join_means ma mb j).leaves → j.denier ≡ None
-      → Begun (q_view (join_means ma mb j))
-  join_begun j e s n = record {
-    shows_stopped = ap (λ p. shows (q_end p)) e;
-    closed = λ o. elim (subst (λ p. Opened (q_end p)) e o) [ ];
-    all_stopped = s;
-    none = n;
-  }
+module _ {R A B : Type 0} {r : rule.Ghosts R} {a : device.Ghosts A} {b : device.Ghosts B} where
+  abbrev pub join_view : Join R A B r a b → View
+  join_view j = q_view (join_means j)
+
+  pub join_fits : ((x : A) → InOrder a.means a.timing x) → ((y : B) → InOrder b.means b.timing y)
+      → (j : Join R A B r a b) → Fit (λ _. Unit {0}) join_view join_time j
+  join_fits f g j =
+      let h = together_certain j.end.phase j.end.denier (a.means j.first) (b.means j.second) j.together in
+      record {
+        own = tt;
+        truly = join_truly j.end.phase j.end.denier _ _ (f j.first).sound (g j.second).sound h;
+        in_time = q_in_time j.end.phase _ (join_in_order f g j).timely;
+      }
