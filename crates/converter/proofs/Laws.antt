@@ -7,14 +7,15 @@ use Rattle.channel.specs.declared.pphase.PPhase.TheVariants as p
 use Rattle.channel.specs.PPhases.{p_number}
 use Rattle.channel.specs.Means.{Leaf, Means, Each, leftmost, Waking, Sound}
 use Rattle.channel.specs.Calls.{or_leftmost}
-use Rattle.channel.specs.Timing.{Timing, Timely}
-use Rattle.pile.specs.Views.{Power, p_end, shows, denied, Truly, InTime}
+use Rattle.channel.specs.Timing.{Timing}
+use Rattle.pile.specs.Views.{Power, p_end}
 use Rattle.pile.specs.Calls.{StopAsked, Ended, Ticks, Runs}
 use Rattle.joins.specs.declared.rules.Drive.TheVariants.{Nothing}
 use Rattle.joins.specs.Rules.{heard, lower_run, raise_stopped, raise_denied}
 use Rattle.joins.specs.Turns.{Turned}
 use Rattle.joins.specs.Together.{Firm}
-use Rattle.joins.proofs.Order.{May, denied_may, asked, stays_firm, stays_waking, stays_still, Still, sound_at, run_none, stopped_none, run_each, turned_tags}
+use Rattle.joins.specs.Ordered.{run_none, stopped_none, waking_each}
+use Rattle.joins.proofs.Order.{May, denied_may, asked, stays_firm, stays_waking, stays_still, Still, turned_tags}
 use Rattle.joins.proofs.Order as join
 use Rattle.joins.proofs.Pace.{Paced, same_bound, asked_gains, backs_out, wakes, moves}
 use Rattle.converter.specs.declared.rules.Mode.{Mode}
@@ -115,7 +116,7 @@ notes mode.Stop mode.Stop d m mid n h t =
     note_as d n.leaves h.1 (rest_none mode.Stop n t.sound_after (rests mode.Stop m mid n h.0 t))
 notes mode.Stop mode.Run d m mid n h t =
     note_as d n.leaves h.1
-    (waking_none n.leaves (join.waking_each n t.sound_after (stays_waking _ (is_some d) m mid n (grind arith) (inr refl) t)))
+    (waking_none n.leaves (waking_each n t.sound_after (stays_waking _ (is_some d) m mid n (grind arith) (inr refl) t)))
 notes mode.Run mode.Unused d m mid n h t = elim h [ ]
 notes mode.Run mode.Stop None m mid n h t = (stop_asked m mid n h t).tells
 notes mode.Run mode.Stop (Some e) m mid n h t = refl
@@ -182,41 +183,6 @@ ticks p.Continue s a d m mid n h t = record {
   ends = λ r z. grind arith;
   same_tags = turned_tags _ m mid n t;
 }
-
--- what a converter shows is so
-rest_truly : (s : Mode) (m : Means) → Sound m → RestAt s m → (d : Option ℕ) → Truly (converter_view p.Stable s d m)
-rest_truly mode.Unused m o r d = elim r [ ]
-rest_truly mode.Stop m o r d = record {
-  stops = λ e. (sound_at Stopped m r o).0;
-  runs = λ e. let z : ⊥ = grind arith in elim z [ ];
-  denies = λ e. let z : ⊥ = grind arith in elim z [ ];
-}
-rest_truly mode.Run m o r d = record {
-  stops = λ e. let z : ⊥ = grind arith in elim z [ ];
-  runs = λ e. run_each m o r;
-  denies = λ e. run_each m o r;
-}
-
-denied_truly : (q : PPhase) (s : Mode) (m : Means) → Sound m → m.phase ≡ Run → shows (p_end q (power s)) ≡ denied → (d : Option ℕ)
-    → Truly (converter_view q s d m)
-denied_truly q s m o r e d = record {
-  stops = λ i. let z : ⊥ = grind arith in elim z [ ];
-  runs = λ i. run_each m o r;
-  denies = λ i. run_each m o r;
-}
-
-pub truly : (q : PPhase) (s a : Mode) (d : Option ℕ) (m : Means) → Sound m → Over q s a d m → Truly (converter_view q s d m)
-truly p.Stable s a d m o h = rest_truly s m o h d
-truly p.Request s a d m o h = record { stops = grind arith; runs = grind arith; denies = grind arith }
-truly p.Accept s a d m o h = let r = rest_truly s m o h d in record { stops = r.stops; runs = r.runs; denies = r.denies }
-truly p.Complete s a d m o h = let r = rest_truly s m o h d in record { stops = r.stops; runs = r.runs; denies = r.denies }
-truly p.Denied s a d m o h = denied_truly p.Denied s m o h.1 refl d
-truly p.Continue s a d m o h = denied_truly p.Continue s m o h.1 refl d
-
--- a converter over a device in time is in time
-pub in_time : (q : PPhase) (s a : Mode) (d : Option ℕ) (m : Means) (t : Timing) → Over q s a d m → Timely m.phase t
-    → InTime (p_end q (power s)) (converter_timing q s a d m.phase t)
-in_time q s a d m t h k = record { some_left = grind arith; at_most = grind arith }
 
 -- the phases that a converter's device may be at during a request
 abbrev PhaseAt : Mode → Mode → Option ℕ → Phase → Type 0

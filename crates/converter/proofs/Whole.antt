@@ -1,24 +1,30 @@
 -- The calls of a converter over any device, from the laws over meanings.
-use Rattle.std.proofs.Common.{◌≡◌, ℕ, Bool, true, false, cond, is_some, is_ok, None, Result, sym, refl, ap, ◌∙◌, subst, arith}
+use Rattle.std.proofs.Common.{◌≡◌, ℕ, Bool, cond, is_some, is_ok, None, Option, Result, refl, ap, ◌∙◌, subst, arith}
 use Rattle.channel.specs.declared.phase.Phase.TheVariants.{Stopped}
 use Rattle.channel.specs.declared.pphase.PPhase.{PPhase}
 use Rattle.channel.specs.declared.pphase.PPhase.TheVariants as p
-use Rattle.channel.specs.Means.{Means, Each}
-use Rattle.channel.specs.Timing.{Timing}
+use Rattle.channel.specs.declared.device.QDevice as device
+use Rattle.channel.specs.Means.{Means, Each, Sound}
+use Rattle.channel.specs.Calls.{Stepped}
+use Rattle.channel.specs.Timing.{Timing, Ticked}
 use Rattle.channel.specs.Device.{InOrder}
-use Rattle.pile.specs.Views.{Begun, p_end, Opened}
-use Rattle.pile.specs.Calls.{Kind, stop, back, tick, StopAsked, Ticks, Runs}
-use Rattle.pile.specs.Runs.{Fit, Linked}
+use Rattle.pile.specs.Views.{Begun, p_end}
+use Rattle.pile.specs.Calls.{stop, back, Called, Timed, Ticks, Runs}
+use Rattle.joins.specs.declared.rules.Drive.{Drive}
+use Rattle.joins.specs.declared.rules.Drive.TheVariants.{Nothing}
 use Rattle.joins.specs.Rules.{heard}
+use Rattle.joins.specs.Turns.{Drove}
 use Rattle.joins.proofs.Whole.{Went, went_turned, went_paced}
 use Rattle.converter.specs.declared.rules.Mode.{Mode}
 use Rattle.converter.specs.declared.rules.Mode.TheVariants as mode
 use Rattle.converter.specs.declared.converter.Converter.{Converter}
-use Rattle.converter.specs.declared.converter.PRefusal.{PRefusal}
 use Rattle.converter.specs.Rules.{mode_of, task_of, task_drive, task_note, next_phase, next_state}
-use Rattle.converter.specs.Over.{power, Over, RestAt, converter_view}
-use Rattle.converter.specs.Converter.{ask_answer, used_answer, drop_answer, view_of, time_of, ConverterOrder, moved, after_ask, drop_at}
-use Rattle.converter.proofs.Laws.{next_mode, keeps_over, ticks, truly, in_time, runs, stays, asks_over, asks}
+use Rattle.converter.specs.Over.{power, Over, RestAt, converter_view, converter_timing}
+use Rattle.converter.specs.declared.refusal.PRefusal.{PRefusal}
+use Rattle.converter.specs.Converter.{ask_answer, used_answer, drop_answer, dropped, AskMade, DropMade, Links}
+use Rattle.converter.specs.Shows.{converter_fits}
+use Rattle.converter.specs.Certain.{over_certain}
+use Rattle.converter.proofs.Laws.{next_mode, keeps_over, ticks, runs, stays, asks_over, asks}
 
 -- the mode of the next state is the next mode
 next_is : (q r : PPhase) (s a : ℕ) → mode_of (next_state q r s a) ≡ next_mode q r (mode_of s) (mode_of a)
@@ -34,131 +40,173 @@ next_is p.Complete r s a = refl
 next_is p.Denied r s a = refl
 next_is p.Continue r s a = refl
 
-module _ {D : Type 0} (od : D → Type 0) (md : D → Means) (td : D → Timing) where
-  abbrev Order : Converter D → Type 0
-  Order = ConverterOrder od md td
+pub record StepKept (q : PPhase) (s a : ℕ) (d : Option ℕ) (m n : Means) (t u : Timing) (r : PPhase) (z b : ℕ) (e : Option ℕ) : Type 0 where
+  pub seen : Ticks (converter_view q (mode_of s) d m) (converter_view r (mode_of z) e n)
+  pub pace :
+      Runs (p_end q (power (mode_of s))) (p_end r (power (mode_of z))) (converter_timing q (mode_of s) (mode_of a) d m.phase t)
+      (converter_timing r (mode_of z) (mode_of b) e n.phase u)
+  pub over : Over r (mode_of z) (mode_of b) e n
 
-  pub fits : (c : Converter D) → Order c → Fit Order (view_of md) (time_of md td) c
-  fits c o = record {
-    own = o;
-    truly = truly c.phase _ (mode_of c.asked) c.denier (md c.device) o.device.sound o.over;
-    in_time = in_time c.phase _ (mode_of c.asked) c.denier (md c.device) (td c.device) o.over o.device.timely;
-  }
-
-  -- a converter over a device just reset
-  pub starts : (c : Converter D) → InOrder od md td c.device → (md c.device).phase ≡ Stopped
-      → c.phase ≡ p.Stable → c.state ≡ 0 → c.denier ≡ None → Order c
-  starts c i e q s n = record { device = i; over = rw q (rw s e) }
-
-  pub record StepKept (b c : Converter D) : Type 0 where
-    pub seen : Ticks (view_of md b) (view_of md c)
-    pub pace : Runs (view_of md b).at (view_of md c).at (time_of md td b) (time_of md td c)
-    pub kept : Order c
-
-  pub steps : (b c : Converter D)
-      → (InOrder od md td b.device
-      → Went od md td (task_drive (task_of b.phase (mode_of b.state) (mode_of b.asked)) (is_some b.denier) (md b.device).phase) b.device c.device)
-      → c.denier ≡ task_note (task_of b.phase (mode_of b.state) (mode_of b.asked)) b.denier (heard (md c.device).phase (md c.device).denier)
-      → c.phase ≡ next_phase b.phase (task_of b.phase (mode_of b.state) (mode_of b.asked)) (is_some c.denier) (md c.device).phase
-      → c.state ≡ next_state b.phase c.phase b.state b.asked
-      → c.asked ≡ b.asked
-      → Order b → StepKept b c
-  steps b c went n q s a o =
-      let m = md b.device in
-      let l = md c.device in
-      let sb = mode_of b.state in
-      let ab = mode_of b.asked in
-      let w = went o.device in
-      let turned = went_turned od md td _ b.device c.device o.device w in
-      let paced = went_paced od md td _ b.device c.device o.device w in
-      let es : mode_of c.state ≡ next_mode b.phase c.phase sb ab = ap mode_of s ∙ next_is b.phase c.phase b.state b.asked in
-      let ea : mode_of c.asked ≡ ab = ap mode_of a in
+module _ {D : Type 0} (md : D → Means) (td : D → Timing) (l : (x : D) → InOrder md td x) (q : PPhase) (s a : ℕ) (d : Option ℕ) (x mid y : D)
+    (w : Drive) (r : PPhase) (z b : ℕ) (e : Option ℕ) where
+  pub steps : Over q (mode_of s) (mode_of a) d (md x)
+      → w ≡ task_drive (task_of q (mode_of s) (mode_of a)) (is_some d) (md x).phase
+      → Drove w (md x) (md mid) → (w ≡ Nothing → mid ≡ x) → (td mid).bound ≡ (td x).bound
+      → Stepped (md mid) (md y) → Ticked (md mid).phase (md y).phase (td mid) (td y)
+      → e ≡ task_note (task_of q (mode_of s) (mode_of a)) d (heard (md y).phase (md y).denier)
+      → r ≡ next_phase q (task_of q (mode_of s) (mode_of a)) (is_some e) (md y).phase
+      → z ≡ next_state q r s a → b ≡ a
+      → StepKept q s a d (md x) (md y) (td x) (td y) r z b e
+  steps h ew drove idle bound stepped ticked n p i j =
+      let sb = mode_of s in
+      let ab = mode_of a in
+      let f : Went md td (task_drive (task_of q sb ab) (is_some d) (md x).phase) x y =
+      subst (λ u. Went md td u x y) ew (record { mid = mid; drove = drove; undriven = idle; mid_bound = bound; stepped = stepped; ticked = ticked }) in
+      let turned = went_turned md td l _ x y f in
+      let es : mode_of z ≡ next_mode q r sb ab = ap mode_of i ∙ next_is q r s a in
+      let ea : mode_of b ≡ ab = ap mode_of j in
       record {
-        seen = rw es (rw q (rw n (ticks b.phase sb ab b.denier m _ l o.over turned)));
-        pace = rw (es, ea) (rw q (rw n
-            (runs b.phase sb ab b.denier _ m l.phase _ _ _ o.over (stays _ b.denier _) paced)));
-        kept = record {
-          device = w.kept;
-          over = rw (es, ea) (rw q (rw n (keeps_over b.phase sb ab b.denier m _ l o.over turned)));
-        };
+        seen = rw es (rw p (rw n (ticks q sb ab d (md x) _ (md y) h turned)));
+        pace = rw (es, ea) (rw p (rw n (runs q sb ab d _ (md x) (md y).phase _ _ _ h (stays _ d _) (went_paced md td l _ x y f))));
+        over = rw (es, ea) (rw p (rw n (keeps_over q sb ab d (md x) _ (md y) h turned)));
       }
 
-  abbrev Links : Kind → Bool → Converter D → Converter D → Type 0
-  Links = Linked Order (view_of md) (time_of md td)
+-- an ask, by its answer
+module _ (q : PPhase) (s a n : ℕ) (d : Option ℕ) (m : Means) (o : Sound m) (h : Over q (mode_of s) (mode_of a) d m) where
+  abbrev ok : Bool
+  ok = is_ok (ask_answer q n)
 
-  pub step_linked : (b c : Converter D) → StepKept b c → Links tick true b c
-  step_linked b c k = record { called = k.seen; timed = k.pace; fit = fits c k.kept }
-
-  asked_linked : (c : Converter D) (n : ℕ) → Order c → c.phase ≡ p.Stable → (mode_of n ≡ mode.Unused → ⊥)
-      → Links stop true c (moved c p.Request n None)
-  asked_linked c n o e u =
-      let r : RestAt (mode_of c.state) (md c.device) =
-      subst (λ q. Over q (mode_of c.state) (mode_of c.asked) c.denier (md c.device)) e o.over in
-      record {
-        called = subst (λ q. StopAsked (converter_view q (mode_of c.state) c.denier (md c.device)) (view_of md (moved c p.Request n None))) (sym e)
-            (asks (mode_of c.state) c.denier (md c.device) o.device.sound r);
-        timed = refl;
-        fit = fits (moved c p.Request n None) (record {
-          device = o.device;
-          over = asks_over (mode_of c.state) (mode_of n) (md c.device) r u;
-        });
-      }
-
-  refused_stop : (c : Converter D) → Order c → Links stop false c c
-  refused_stop c o = record { called = refl; timed = refl; fit = fits c o }
-
-  refused_back : (c : Converter D) → Order c → Links back false c c
-  refused_back c o = record { called = refl; timed = refl; fit = fits c o }
-
-  pub ask_linked : (c : Converter D) (n : ℕ) → Order c → Links stop (is_ok (ask_answer c.phase n)) c (after_ask c n)
-  ask_linked c n o = by c.phase refl
+  pub ask_over : Over (cond ok p.Request q) (mode_of s) (mode_of (cond ok n a)) (cond ok None d) m
+  ask_over = by q h
     where
-      used : (m : Mode) → mode_of n ≡ m → c.phase ≡ p.Stable
-          → Links stop (is_ok (used_answer m)) c (cond (is_ok (used_answer m)) (moved c p.Request n None) c)
-      used mode.Unused e q = refused_stop c o
-      used mode.Stop e q = asked_linked c n o q (λ i. grind arith)
-      used mode.Run e q = asked_linked c n o q (λ i. grind arith)
+      used : (u : Mode) → mode_of n ≡ u → RestAt (mode_of s) m
+          → Over (cond (is_ok (used_answer u)) p.Request p.Stable) (mode_of s) (mode_of (cond (is_ok (used_answer u)) n a))
+          (cond (is_ok (used_answer u)) None d) m
+      used mode.Unused e r = r
+      used mode.Stop e r = asks_over (mode_of s) (mode_of n) m r (λ i. grind arith)
+      used mode.Run e r = asks_over (mode_of s) (mode_of n) m r (λ i. grind arith)
 
-      by : (q : PPhase) → c.phase ≡ q → Links stop (is_ok (ask_answer q n)) c (cond (is_ok (ask_answer q n)) (moved c p.Request n None) c)
-      by p.Stable e = used (mode_of n) refl e
-      by p.Request e = refused_stop c o
-      by p.Accept e = refused_stop c o
-      by p.Complete e = refused_stop c o
-      by p.Denied e = refused_stop c o
-      by p.Continue e = refused_stop c o
+      by : (q : PPhase) → Over q (mode_of s) (mode_of a) d m
+          → Over (cond (is_ok (ask_answer q n)) p.Request q) (mode_of s) (mode_of (cond (is_ok (ask_answer q n)) n a))
+          (cond (is_ok (ask_answer q n)) None d) m
+      by p.Stable h = used (mode_of n) refl h
+      by p.Request h = h
+      by p.Accept h = h
+      by p.Complete h = h
+      by p.Denied h = h
+      by p.Continue h = h
 
-  dropped : (c : Converter D) (q r : PPhase) → Order c → c.phase ≡ q → (Opened (p_end q (power (mode_of c.state))) → ⊥)
-      → Opened (p_end r (power (mode_of c.state)))
-      → Over r (mode_of c.state) (mode_of c.asked) c.denier (md c.device)
-      → Links back true c (moved c r c.asked c.denier)
-  dropped c q r o e closed opened h = record {
-    called = record { closed = λ i. closed (subst (λ z. Opened (p_end z (power (mode_of c.state)))) e i); opened = opened; same_tags = refl };
-    timed = refl;
-    fit = fits (moved c r c.asked c.denier) (record { device = o.device; over = h });
-  }
-
-  pub drop_linked : (c : Converter D) → Order c → Links back (is_ok (drop_answer c.phase)) c (drop_at c.phase c)
-  drop_linked c o = by c.phase refl o.over
+  pub ask_called : Called stop ok (converter_view q (mode_of s) d m) (converter_view (cond ok p.Request q) (mode_of s) (cond ok None d) m)
+  ask_called = by q h
     where
-      by : (q : PPhase) → c.phase ≡ q → Over q (mode_of c.state) (mode_of c.asked) c.denier (md c.device)
-          → Links back (is_ok (drop_answer q)) c (drop_at q c)
-      by p.Stable e h = refused_back c o
-      by p.Request e h = refused_back c o
-      by p.Accept e h = dropped c p.Accept p.Complete o e (λ i. i) tt h
-      by p.Complete e h = refused_back c o
-      by p.Denied e h = dropped c p.Denied p.Continue o e (λ i. i) tt h
-      by p.Continue e h = refused_back c o
+      used : (u : Mode) → RestAt (mode_of s) m
+          → Called stop (is_ok (used_answer u)) (converter_view p.Stable (mode_of s) d m)
+          (converter_view (cond (is_ok (used_answer u)) p.Request p.Stable) (mode_of s) (cond (is_ok (used_answer u)) None d) m)
+      used mode.Unused r = refl
+      used mode.Stop r = asks (mode_of s) d m o r
+      used mode.Run r = asks (mode_of s) d m o r
 
-  -- where a run begins
-  pub begins : (c : Converter D) → c.phase ≡ p.Stable → c.state ≡ 0 → c.denier ≡ None
-      → Each (λ x. x ≡ Stopped) (md c.device).leaves → Begun (view_of md c)
-  begins c q s n e = record {
-    shows_stopped = rw (q, s);
-    closed = λ o. elim (subst (λ z. Opened (p_end z (power (mode_of c.state)))) q o) [ ];
-    all_stopped = e;
-    none = n;
-  }
+      by : (q : PPhase) → Over q (mode_of s) (mode_of a) d m
+          → Called stop (is_ok (ask_answer q n)) (converter_view q (mode_of s) d m)
+          (converter_view (cond (is_ok (ask_answer q n)) p.Request q) (mode_of s) (cond (is_ok (ask_answer q n)) None d) m)
+      by p.Stable h = used (mode_of n) h
+      by p.Request h = refl
+      by p.Accept h = refl
+      by p.Complete h = refl
+      by p.Denied h = refl
+      by p.Continue h = refl
 
-  pub ask_links : (c : Converter D) (n : ℕ) (r : Result Unit PRefusal) (y : Converter D) → r ≡ ask_answer c.phase n → y ≡ after_ask c n
-      → Order c → Links stop (is_ok r) c y
-  ask_links c n r y e f o = rw (e, f) (ask_linked c n o)
+  pub ask_timed : (t : Timing)
+      → Timed stop ok (p_end q (power (mode_of s))) (p_end (cond ok p.Request q) (power (mode_of s)))
+      (converter_timing q (mode_of s) (mode_of a) d m.phase t)
+      (converter_timing (cond ok p.Request q) (mode_of s) (mode_of (cond ok n a)) (cond ok None d) m.phase t)
+  ask_timed t = by q
+    where
+      used : (u : Mode)
+          → Timed stop (is_ok (used_answer u)) (p_end p.Stable (power (mode_of s))) (p_end (cond (is_ok (used_answer u)) p.Request p.Stable) (power (mode_of s)))
+          (converter_timing p.Stable (mode_of s) (mode_of a) d m.phase t)
+          (converter_timing (cond (is_ok (used_answer u)) p.Request p.Stable) (mode_of s) (mode_of (cond (is_ok (used_answer u)) n a)) (cond (is_ok (used_answer u)) None d) m.phase t)
+      used mode.Unused = refl
+      used mode.Stop = refl
+      used mode.Run = refl
+
+      by : (q : PPhase)
+          → Timed stop (is_ok (ask_answer q n)) (p_end q (power (mode_of s))) (p_end (cond (is_ok (ask_answer q n)) p.Request q) (power (mode_of s)))
+          (converter_timing q (mode_of s) (mode_of a) d m.phase t)
+          (converter_timing (cond (is_ok (ask_answer q n)) p.Request q) (mode_of s) (mode_of (cond (is_ok (ask_answer q n)) n a)) (cond (is_ok (ask_answer q n)) None d) m.phase t)
+      by p.Stable = used (mode_of n)
+      by p.Request = refl
+      by p.Accept = refl
+      by p.Complete = refl
+      by p.Denied = refl
+      by p.Continue = refl
+
+-- a drop, by the phase before it
+module _ (q : PPhase) (s a : Mode) (d : Option ℕ) (m : Means) (h : Over q s a d m) where
+  pub drop_over : Over (dropped q) s a d m
+  drop_over = by q h
+    where
+      by : (q : PPhase) → Over q s a d m → Over (dropped q) s a d m
+      by p.Stable h = h
+      by p.Request h = h
+      by p.Accept h = h
+      by p.Complete h = h
+      by p.Denied h = h
+      by p.Continue h = h
+
+  pub drop_called : Called back (is_ok (drop_answer q)) (converter_view q s d m) (converter_view (dropped q) s d m)
+  drop_called = by q
+    where
+      by : (q : PPhase) → Called back (is_ok (drop_answer q)) (converter_view q s d m) (converter_view (dropped q) s d m)
+      by p.Stable = refl
+      by p.Request = refl
+      by p.Accept = record { closed = λ i. i; opened = tt; same_tags = refl }
+      by p.Complete = refl
+      by p.Denied = record { closed = λ i. i; opened = tt; same_tags = refl }
+      by p.Continue = refl
+
+  pub drop_timed : (t : Timing)
+      → Timed back (is_ok (drop_answer q)) (p_end q (power s)) (p_end (dropped q) (power s))
+      (converter_timing q s a d m.phase t) (converter_timing (dropped q) s a d m.phase t)
+  drop_timed t = by q
+    where
+      by : (q : PPhase)
+          → Timed back (is_ok (drop_answer q)) (p_end q (power s)) (p_end (dropped q) (power s))
+          (converter_timing q s a d m.phase t) (converter_timing (dropped q) s a d m.phase t)
+      by p.Stable = refl
+      by p.Request = refl
+      by p.Accept = refl
+      by p.Complete = refl
+      by p.Denied = refl
+      by p.Continue = refl
+
+-- where a run begins
+pub begins : (m : Means) → Each (λ x. x ≡ Stopped) m.leaves → Begun (converter_view p.Stable mode.Stop None m)
+begins m e = record { shows_stopped = refl; closed = λ o. o; all_stopped = e; none = refl }
+
+module _ {D : Type 0} {d : device.Ghosts D} where
+  pub held : (c : Converter D d) → Over c.phase (mode_of c.state) (mode_of c.asked) c.denier (d.means c.device)
+  held c = over_certain c.phase (mode_of c.state) (mode_of c.asked) c.denier (d.means c.device) c.over
+
+  module _ (l : (x : D) → InOrder d.means d.timing x) where
+    pub ask_links : (n : ℕ) (b c : Converter D d) (o : Result Unit PRefusal) → o ≡ ask_answer b.phase n → AskMade n b c → Links stop (is_ok o) b c
+    ask_links n b c o e h =
+        let m = d.means b.device in
+        let s = (l b.device).sound in
+        record {
+          called = rw (e, h.phase_is, h.same_state, h.denier_is, h.same_device) (ask_called b.phase b.state b.asked n b.denier m s (held b));
+          timed = rw (e, h.phase_is, h.same_state, h.asked_is, h.denier_is, h.same_device)
+              (ask_timed b.phase b.state b.asked n b.denier m s (held b) (d.timing b.device));
+          fit = converter_fits l c;
+        }
+
+    pub drop_links : (b c : Converter D d) (o : Result Unit PRefusal) → o ≡ drop_answer b.phase → DropMade b c → Links back (is_ok o) b c
+    drop_links b c o e h =
+        let m = d.means b.device in
+        record {
+          called = rw (e, h.phase_is, h.same_state, h.same_denier, h.same_device)
+              (drop_called b.phase (mode_of b.state) (mode_of b.asked) b.denier m (held b));
+          timed = rw (e, h.phase_is, h.same_state, h.same_asked, h.same_denier, h.same_device)
+              (drop_timed b.phase (mode_of b.state) (mode_of b.asked) b.denier m (held b) (d.timing b.device));
+          fit = converter_fits l c;
+        }

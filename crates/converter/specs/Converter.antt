@@ -1,29 +1,21 @@
--- A converter over any device: what is seen of it, when it is in order, and what its calls make of it.
-use Rattle.std.specs.Prelude.{◌≡◌, ℕ, Bool, cond, is_some, is_ok, None, Ok, Err, Option, Result}
+-- A converter over any device: what is seen of it, and what its calls make of it.
+use Rattle.std.specs.Prelude.{◌≡◌, ℕ, Bool, cond, is_some, is_ok, None, Ok, Err, Result}
 use Rattle.channel.specs.declared.pphase.PPhase.{PPhase}
 use Rattle.channel.specs.declared.pphase.PPhase.TheVariants as p
-use Rattle.channel.specs.declared.device.Call.{Call}
 use Rattle.channel.specs.declared.device.Call.TheVariants as call
-use Rattle.channel.specs.Means.{Means}
+use Rattle.channel.specs.declared.device.QDevice as device
 use Rattle.channel.specs.Timing.{Timing}
-use Rattle.channel.specs.Device.{InOrder}
 use Rattle.pile.specs.Views.{View}
 use Rattle.pile.specs.Calls.{Kind}
-use Rattle.pile.specs.Runs.{Fit, Linked}
+use Rattle.pile.specs.Runs.{Linked}
 use Rattle.joins.specs.Rules.{heard, DriveMakes}
 use Rattle.converter.specs.declared.rules.Mode.{Mode}
 use Rattle.converter.specs.declared.rules.Mode.TheVariants as mode
 use Rattle.converter.specs.declared.converter.Converter.{Converter}
-use Rattle.converter.specs.declared.converter.PRefusal.{PRefusal}
-use Rattle.converter.specs.declared.converter.PRefusal.TheVariants.{AskNotAtStable, StateUnused, DropNotAnswered}
+use Rattle.converter.specs.declared.refusal.PRefusal.{PRefusal}
+use Rattle.converter.specs.declared.refusal.PRefusal.TheVariants.{AskNotAtStable, StateUnused, DropNotAnswered}
 use Rattle.converter.specs.Rules.{mode_of, task_of, task_drive, task_note, next_phase, next_state}
-use Rattle.converter.specs.Over.{converter_view, Over, converter_timing}
-
--- refusals by number
-abbrev pub p_refusal_number : PRefusal → ℕ
-p_refusal_number AskNotAtStable = 40
-p_refusal_number StateUnused = 41
-p_refusal_number DropNotAnswered = 42
+use Rattle.converter.specs.Over.{converter_view, converter_timing}
 
 -- a state to ask for is one that is used
 abbrev pub used_answer : Mode → Result Unit PRefusal
@@ -48,55 +40,55 @@ drop_answer p.Complete = Err DropNotAnswered
 drop_answer p.Denied = Ok tt
 drop_answer p.Continue = Err DropNotAnswered
 
-module _ {D : Type 0} where
-  abbrev pub view_of : (D → Means) → Converter D → View
-  view_of md c = converter_view c.phase (mode_of c.state) c.denier (md c.device)
+-- where a drop leads
+abbrev pub dropped : PPhase → PPhase
+dropped p.Stable = p.Stable
+dropped p.Request = p.Request
+dropped p.Accept = p.Complete
+dropped p.Complete = p.Complete
+dropped p.Denied = p.Continue
+dropped p.Continue = p.Continue
 
-  abbrev pub time_of : (D → Means) → (D → Timing) → Converter D → Timing
-  time_of md td c = converter_timing c.phase (mode_of c.state) (mode_of c.asked) c.denier (md c.device).phase (td c.device)
+module _ {D : Type 0} {d : device.Ghosts D} where
+  abbrev pub view_of : Converter D d → View
+  view_of c = converter_view c.phase (mode_of c.state) c.denier (d.means c.device)
 
-  -- the device is in order, and goes with the converter's own phase, state and denier
-  pub record ConverterOrder (od : D → Type 0) (md : D → Means) (td : D → Timing) (c : Converter D) : Type 0 where
-    pub device : InOrder od md td c.device
-    pub over : Over c.phase (mode_of c.state) (mode_of c.asked) c.denier (md c.device)
+  abbrev pub time_of : Converter D d → Timing
+  time_of c = converter_timing c.phase (mode_of c.state) (mode_of c.asked) c.denier (d.means c.device).phase (d.timing c.device)
 
-  -- in order as a pile
-  abbrev pub ConverterFit : (od : D → Type 0) (md : D → Means) (td : D → Timing) → Converter D → Type 0
-  ConverterFit od md td c = Fit (ConverterOrder od md td) (view_of md) (time_of md td) c
+  -- a converter goes from b to c as a call of this kind does
+  abbrev pub Links : Kind → Bool → Converter D d → Converter D d → Type 0
+  Links k accepted b c = Linked (λ _. Unit {0}) view_of time_of k accepted b c
 
-  -- in order, a converter goes from b to c as a call of this kind does
-  abbrev pub Links : (od : D → Type 0) (md : D → Means) (td : D → Timing) → Kind → Bool → Converter D → Converter D → Type 0
-  Links od md td k accepted b c =
-      ConverterOrder od md td b → Linked (ConverterOrder od md td) (view_of md) (time_of md td) k accepted b c
+  -- an accepted ask opens the request, and clears the denier; a refused one changes nothing
+  pub record AskMade (n : ℕ) (b c : Converter D d) : Type 0 where
+    pub phase_is : c.phase ≡ cond (is_ok (ask_answer b.phase n)) p.Request b.phase
+    pub asked_is : c.asked ≡ cond (is_ok (ask_answer b.phase n)) n b.asked
+    pub denier_is : c.denier ≡ cond (is_ok (ask_answer b.phase n)) None b.denier
+    pub same_device : c.device ≡ b.device
+    pub same_state : c.state ≡ b.state
 
-  -- the same converter in another phase
-  abbrev pub moved : Converter D → PPhase → ℕ → Option ℕ → Converter D
-  moved c q a d = record { device = c.device; phase = q; state = c.state; asked = a; denier = d }
-
-  abbrev pub after_ask : Converter D → ℕ → Converter D
-  after_ask c n = cond (is_ok (ask_answer c.phase n)) (moved c p.Request n None) c
-
-  abbrev pub drop_at : PPhase → Converter D → Converter D
-  drop_at p.Stable c = c
-  drop_at p.Request c = c
-  drop_at p.Accept c = moved c p.Complete c.asked c.denier
-  drop_at p.Complete c = c
-  drop_at p.Denied c = moved c p.Continue c.asked c.denier
-  drop_at p.Continue c = c
+  -- a drop acts on the phase alone
+  pub record DropMade (b c : Converter D d) : Type 0 where
+    pub phase_is : c.phase ≡ dropped b.phase
+    pub same_device : c.device ≡ b.device
+    pub same_state : c.state ≡ b.state
+    pub same_asked : c.asked ≡ b.asked
+    pub same_denier : c.denier ≡ b.denier
 
   -- a step drives the device by its phase before, steps it, notes, decides, and takes the state over at Accept
-  pub record StepMade (md : D → Means) (nd : Call → D → D → Type 0) (b c : Converter D) : Type 0 where
+  pub record StepMade (b c : Converter D d) : Type 0 where
     pub mid : D
-    pub driven : DriveMakes nd (task_drive (task_of b.phase (mode_of b.state) (mode_of b.asked)) (is_some b.denier) (md b.device).phase) b.device mid
-    pub stepped : nd call.Step mid c.device
-    pub notes : c.denier ≡ task_note (task_of b.phase (mode_of b.state) (mode_of b.asked)) b.denier (heard (md c.device).phase (md c.device).denier)
-    pub decides : c.phase ≡ next_phase b.phase (task_of b.phase (mode_of b.state) (mode_of b.asked)) (is_some c.denier) (md c.device).phase
+    pub driven : DriveMakes d.makes (task_drive (task_of b.phase (mode_of b.state) (mode_of b.asked)) (is_some b.denier) (d.means b.device).phase) b.device mid
+    pub stepped : d.makes call.Step mid c.device
+    pub notes : c.denier ≡ task_note (task_of b.phase (mode_of b.state) (mode_of b.asked)) b.denier (heard (d.means c.device).phase (d.means c.device).denier)
+    pub decides : c.phase ≡ next_phase b.phase (task_of b.phase (mode_of b.state) (mode_of b.asked)) (is_some c.denier) (d.means c.device).phase
     pub state_is : c.state ≡ next_state b.phase c.phase b.state b.asked
     pub same_asked : c.asked ≡ b.asked
 
   -- made or reset: Stable, state 0, no denier, the device reset
-  pub record StartMade (nd : Call → D → D → Type 0) (x : D) (c : Converter D) : Type 0 where
-    pub device_reset : nd call.Restart x c.device
+  pub record StartMade (x : D) (c : Converter D d) : Type 0 where
+    pub device_reset : d.makes call.Restart x c.device
     pub stable : c.phase ≡ p.Stable
     pub state_0 : c.state ≡ 0
     pub asked_0 : c.asked ≡ 0

@@ -1,4 +1,7 @@
 pub mod Rules
+pub mod Refusals
 pub mod Over
+pub mod Certain
 pub mod Converter
+pub mod Shows
 pub mod Stack

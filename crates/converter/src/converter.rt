@@ -1,50 +1,31 @@
 // A P-Channel end over any Q device.
-ghost use Rattle.std.specs.Prelude.{◌≡◌, ◌*◌, true, is_ok};
-ghost use Rattle.channel.specs.PPhases.{p_levels};
-ghost use Rattle.channel.specs.Means.{tags};
-ghost use Rattle.channel.specs.Calls.{Reset};
-ghost use Rattle.pile.specs.Calls.{stop, back, tick};
-ghost use Rattle.pile.specs.Views.{Begun};
-ghost use Rattle.converter.specs.Converter.{p_refusal_number, ask_answer, drop_answer, after_ask, drop_at, StepMade, StartMade, ConverterOrder, ConverterFit, Links, view_of, time_of};
+ghost use Rattle.converter.specs.Rules.{mode_of};
+ghost use Rattle.converter.specs.Over.{Over};
 
+use crate::refusal::PRefusal;
 use crate::rules::{Mode, drive_for, next_phase, next_state, note_for, task_for};
 use channel::device::QDevice;
 use channel::pphase::PPhase;
 use channel::signals::Signals;
-use joins::join::make_drive;
+use joins::drive::make_drive;
 use joins::rules::heard_of;
 
-// Why a converter refuses a call. A refused call changes nothing.
-#[derive(Clone, Copy, PartialEq, Eq, Debug)]
-pub enum PRefusal {
-    // ask elsewhere than at Stable
-    AskNotAtStable = 40,
-    // ask for a state that is unused or above 15
-    StateUnused = 41,
-    // drop elsewhere than at Accept or Denied
-    DropNotAnswered = 42,
-}
-
-// A refusal's number.
-impl From<PRefusal> for u8 {
-    ghost from_gives = { λ why n. n ≡ p_refusal_number why };
-
-    fn from(why: PRefusal) -> u8 {
-        why as u8
-    }
-}
-
+// Its phase, state and denier go with its device.
 #[derive(Drop)]
-pub struct Converter<D> {
+pub struct Converter<D: QDevice> {
     device: D,
     phase: PPhase,
     state: u8,
     // the state of the latest ask
     asked: u8,
     denier: Option<u32>,
+    ghost over: { ∥ Over phase (mode_of state) (mode_of asked) denier (D.means device) ∥₁ },
 }
 
-impl<D> Converter<D> {
+impl<D: QDevice> Converter<D> {
+    ghost use Rattle.std.specs.Prelude.{◌≡◌};
+    ghost use Rattle.channel.specs.PPhases.{p_levels};
+
     pub fn phase(&self) -> PPhase
         ensures { result ≡ self.now.phase }
     {
@@ -79,14 +60,19 @@ impl<D> Converter<D> {
 }
 
 impl<D: QDevice> Converter<D> {
+    ghost use Rattle.std.specs.Prelude.{◌≡◌, ◌*◌, true, is_ok};
+    ghost use Rattle.channel.specs.Means.{tags};
+    ghost use Rattle.channel.specs.Calls.{Reset};
+    ghost use Rattle.pile.specs.Calls.{stop, back, tick};
+    ghost use Rattle.pile.specs.Views.{Begun};
+    ghost use Rattle.converter.specs.Converter.{ask_answer, drop_answer, AskMade, DropMade, StepMade, StartMade, Links, view_of, time_of};
+
     // A converter over a device, which it resets. It starts at Stable in state 0.
     pub fn new(mut device: D) -> Self
-        ensures made { StartMade D.QDevice.makes device result }
-        ensures kept { ConverterOrder D.QDevice.ordered D.QDevice.means D.QDevice.timing result }
-        ensures begun { Begun (view_of D.QDevice.means result) }
-        ensures fit { ConverterFit D.QDevice.ordered D.QDevice.means D.QDevice.timing result }
-        ensures leaves { tags (D.QDevice.means result.device).leaves ≡ tags (D.QDevice.means device).leaves }
-        ensures bound { (time_of D.QDevice.means D.QDevice.timing result).bound ≡ 2 * (D.QDevice.timing device).bound }
+        ensures made { StartMade device result }
+        ensures begun { Begun (view_of result) }
+        ensures leaves { tags (D.means result.device).leaves ≡ tags (D.means device).leaves }
+        ensures bound { (time_of result).bound ≡ 2 * (D.timing device).bound }
     {
         device.reset();
         Converter {
@@ -101,8 +87,8 @@ impl<D: QDevice> Converter<D> {
     // Asks for a power state.
     pub fn ask(&mut self, state: u8) -> Result<(), PRefusal>
         ensures answer { result ≡ ask_answer self.old.phase state }
-        ensures exact { self.new ≡ after_ask self.old state }
-        ensures linked { Links D.QDevice.ordered D.QDevice.means D.QDevice.timing stop (is_ok result) self.old self.new }
+        ensures exact { AskMade state self.old self.new }
+        ensures linked { Links stop (is_ok result) self.old self.new }
     {
         match (self.phase, Mode::from(state)) {
             (PPhase::Stable, Mode::Unused) => Err(PRefusal::StateUnused),
@@ -119,26 +105,21 @@ impl<D: QDevice> Converter<D> {
     // Takes PREQ back once the ask is answered.
     pub fn drop(&mut self) -> Result<(), PRefusal>
         ensures answer { result ≡ drop_answer self.old.phase }
-        ensures exact { self.new ≡ drop_at self.old.phase self.old }
-        ensures linked { Links D.QDevice.ordered D.QDevice.means D.QDevice.timing back (is_ok result) self.old self.new }
+        ensures exact { DropMade self.old self.new }
+        ensures linked { Links back (is_ok result) self.old self.new }
     {
-        match self.phase {
-            PPhase::Accept => {
-                self.phase = PPhase::Complete;
-                Ok(())
-            }
-            PPhase::Denied => {
-                self.phase = PPhase::Continue;
-                Ok(())
-            }
-            _ => Err(PRefusal::DropNotAnswered),
-        }
+        self.phase = match self.phase {
+            PPhase::Accept => PPhase::Complete,
+            PPhase::Denied => PPhase::Continue,
+            _ => return Err(PRefusal::DropNotAnswered),
+        };
+        Ok(())
     }
 
     // Lets one step pass.
     pub fn step(&mut self)
-        ensures exact { StepMade D.QDevice.means D.QDevice.makes self.old self.new }
-        ensures linked { Links D.QDevice.ordered D.QDevice.means D.QDevice.timing tick true self.old self.new }
+        ensures exact { StepMade self.old self.new }
+        ensures linked { Links tick true self.old self.new }
     {
         let from = self.phase;
         let task = task_for(from, self.state.into(), self.asked.into());
@@ -146,18 +127,16 @@ impl<D: QDevice> Converter<D> {
         let before = self.device.phase();
         make_drive(&mut self.device, drive_for(task, noted, before));
         self.device.step();
-        let told = heard_of(self.device.phase(), self.device.denier());
-        self.denier = note_for(task, self.denier, told);
+        self.denier = note_for(task, self.denier, heard_of(self.device.end()));
         self.phase = next_phase(from, task, self.denier.is_some(), self.device.phase());
         self.state = next_state(from, self.phase, self.state, self.asked);
     }
 
     // Leads from anything to Stable in state 0, with the device reset.
     pub fn reset(&mut self)
-        ensures exact { StartMade D.QDevice.makes self.old.device self.new }
-        ensures kept { ConverterOrder D.QDevice.ordered D.QDevice.means D.QDevice.timing self.new }
-        ensures device { Reset (D.QDevice.means self.old.device) (D.QDevice.means self.new.device) }
-        ensures bound { (time_of D.QDevice.means D.QDevice.timing self.new).bound ≡ (time_of D.QDevice.means D.QDevice.timing self.old).bound }
+        ensures exact { StartMade self.old.device self.new }
+        ensures device { Reset (D.means self.old.device) (D.means self.new.device) }
+        ensures bound { (time_of self.new).bound ≡ (time_of self.old).bound }
     {
         self.device.reset();
         self.phase = PPhase::Stable;

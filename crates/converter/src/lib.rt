@@ -2,5 +2,6 @@
 #![tactic(auto)]
 
 pub mod converter;
+pub mod refusal;
 pub mod rules;
 pub mod stack;

@@ -1,8 +1,10 @@
 // A converter is a pile: the promise holds of it over any device.
-ghost use Rattle.converter.specs.Converter.{view_of, time_of, ConverterOrder};
+ghost use Rattle.converter.specs.Converter.{view_of, time_of};
+ghost use Rattle.converter.specs.Shows.{converter_fits};
 ghost use Rattle.converter.specs.Stack.{p_kind, p_answer, p_makes, p_resets};
 
-use crate::converter::{Converter, PRefusal};
+use crate::converter::Converter;
+use crate::refusal::PRefusal;
 use channel::device::QDevice;
 use pile::pile::Pile;
 
@@ -19,11 +21,9 @@ impl<D: QDevice> Pile for Converter<D> {
 
     type Refusal = PRefusal;
 
-    ghost view = { view_of D.QDevice.means };
+    ghost view = { view_of };
 
-    ghost timing = { time_of D.QDevice.means D.QDevice.timing };
-
-    ghost ordered = { ConverterOrder D.QDevice.ordered D.QDevice.means D.QDevice.timing };
+    ghost timing = { time_of };
 
     ghost piled = { λ _. Unit {0} };
 
@@ -31,9 +31,11 @@ impl<D: QDevice> Pile for Converter<D> {
 
     ghost answer = { p_answer };
 
-    ghost makes = { p_makes D.QDevice.means D.QDevice.makes };
+    ghost makes = { p_makes };
 
-    ghost resets = { p_resets D.QDevice.makes };
+    ghost resets = { p_resets };
+
+    ghost fits = { λ c _. converter_fits D.in_order c };
 
     fn restart(&mut self) {
         self.reset();

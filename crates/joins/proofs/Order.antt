@@ -4,7 +4,7 @@
 use Rattle.std.proofs.Common.{◌≡◌, ℕ, Bool, true, false, cond, eqb, ◌⊎◌, List, ◌++◌, is_some, Some, None, Option, sym, refl, ap, ◌∙◌, subst, inl, inr, arith}
 use Rattle.channel.specs.declared.phase.Phase.{Phase}
 use Rattle.channel.specs.declared.phase.Phase.TheVariants.{Run, Request, Stopped, Exit, Denied, Continue}
-use Rattle.channel.specs.Means.{Means, Each, tags, leftmost, Has, Waking, Denying, Continuing, Agrees, Sound}
+use Rattle.channel.specs.Means.{Means, tags, leftmost, Has, Waking}
 use Rattle.channel.specs.Calls.{Stepped, StepTo, Open, noted}
 use Rattle.joins.specs.declared.rules.Kind.{Kind}
 use Rattle.joins.specs.declared.rules.Kind.TheVariants.{Distributor, Sequencer}
@@ -14,7 +14,7 @@ use Rattle.joins.specs.Rules.{first_drive, second_drive, distributor_drive, sequ
 use Rattle.joins.specs.Turns.{Drove, Turned, driven}
 use Rattle.joins.specs.Together.{joined, Asking, Firm, Both, Together, InSequence, denier_after, phase_after}
 use Rattle.joins.specs.Leaves.{tags-++, leftmost-++}
-use Rattle.joins.specs.Ordered.{sound_at, run_none, stopped_none}
+use Rattle.joins.specs.Ordered.{run_none, stopped_none}
 
 -- a drive that a distributor gives, or none
 abbrev pub May : Phase → Bool → Phase → Drive → Type 0

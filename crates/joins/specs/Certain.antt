@@ -8,15 +8,15 @@ use Rattle.channel.specs.declared.phase.Phase.TheVariants.{Run, Request, Stopped
 use Rattle.channel.specs.Means.{Means, Has, Waking}
 use Rattle.joins.specs.declared.rules.Kind.{Kind}
 use Rattle.joins.specs.declared.rules.Kind.TheVariants.{Distributor, Sequencer}
-use Rattle.joins.specs.Together.{Asking, Firm, Both, NotBothRun, Together, InSequence}
+use Rattle.joins.specs.Together.{Asking, Firm, Together, InSequence}
 
-sum-prop : {P Q : Type 0} → IsProp P → IsProp Q → (P → Q → ⊥) → IsProp (P ⊎ Q)
+pub sum-prop : {P Q : Type 0} → IsProp P → IsProp Q → (P → Q → ⊥) → IsProp (P ⊎ Q)
 sum-prop p q n (inl x) (inl y) = ap inl (p x y)
 sum-prop p q n (inl x) (inr y) = elim (n x y) [ ]
 sum-prop p q n (inr x) (inl y) = elim (n y x) [ ]
 sum-prop p q n (inr x) (inr y) = ap inr (q x y)
 
-Has-prop : (d : Option ℕ) → IsProp (Has d)
+pub Has-prop : (d : Option ℕ) → IsProp (Has d)
 Has-prop (Some t) = Prim.hlevel props
 Has-prop None = Prim.hlevel props
 

@@ -1,5 +1,5 @@
 -- A join over devices in order is in order.
-use Rattle.std.specs.Prelude.{◌≡◌, ℕ, ◌⊎◌, ◌++◌, Some, None, Option}
+use Rattle.std.specs.Prelude.{◌≡◌, ℕ, ◌⊎◌, Some, None, Option}
 use Rattle.std.proofs.Common.{◌∙◌, subst, inl, inr, arith}
 use Rattle.channel.specs.declared.phase.Phase.{Phase}
 use Rattle.channel.specs.declared.phase.Phase.TheVariants.{Run, Request, Stopped, Exit, Denied, Continue}
@@ -11,7 +11,7 @@ use Rattle.joins.specs.declared.rule.Rule as rule
 use Rattle.joins.specs.declared.rules.Kind.{Kind}
 use Rattle.joins.specs.declared.rules.Kind.TheVariants.{Distributor, Sequencer}
 use Rattle.joins.specs.declared.join.Join.{Join}
-use Rattle.joins.specs.Together.{joined, Asking, Both, Together}
+use Rattle.joins.specs.Together.{joined, Asking, Together}
 use Rattle.joins.specs.Bounds.{join_timing}
 use Rattle.joins.specs.Certain.{together_certain}
 use Rattle.joins.specs.Join.{join_means, join_time}
