@@ -3,3 +3,4 @@ pub mod Calls
 pub mod Runs
 pub mod OfQ
 pub mod Forbids
+pub mod Promise

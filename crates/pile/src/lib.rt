@@ -4,3 +4,4 @@
 pub mod forbids;
 pub mod own;
 pub mod pile;
+pub mod played;

@@ -1,9 +1,9 @@
-// A pile as seen from above, and the call that plays one.
+// A pile as seen from above.
 ghost use Rattle.std.specs.Prelude.{◌≡◌, Bool, Result, is_ok};
 ghost use Rattle.channel.specs.Timing.{Timing};
 ghost use Rattle.pile.specs.Views.{View, Begun};
 ghost use Rattle.pile.specs.Calls.{Kind};
-ghost use Rattle.pile.specs.Runs.{Fit, Linked, Every, Promised};
+ghost use Rattle.pile.specs.Runs.{Fit, Linked};
 
 // What is stacked over devices and takes calls from above. An implementation says what is seen of it,
 // and what kind of call each of its own calls is.
@@ -45,16 +45,4 @@ pub trait Pile {
 
     // what a pile shows is so, and a change that is under way has steps left
     ghost fits: { (p : Self) → piled p → Fit piled view timing p };
-}
-
-// Resets a pile and makes these calls, one after the other. Whatever they are and whatever its devices
-// answer: what is shown is so, a denial has its leaf, and every change ends in time.
-pub fn play<P: Pile>(pile: &mut P, calls: &[P::Call])
-    ensures promised { P.piled pile.old → Promised P.piled P.view P.timing P.kind P.makes P.resets calls.now pile.old pile.new }
-    ensures every { Every P.piled P.view P.timing P.kind P.makes }
-{
-    pile.restart();
-    for call in calls {
-        let _ = pile.make(*call);
-    }
 }

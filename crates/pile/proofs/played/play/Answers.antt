@@ -2,7 +2,7 @@ use Rattle.std.proofs.Common.{◌≡◌, ◌+◌, [], ◌∷◌, ◌++◌, take,
 use Rattle.std.proofs.lemmas.List.{take_more, take_all}
 use Rattle.pile.proofs.Promise.{every_run}
 use Rattle.pile.proofs.Playing.{Ran, ran_none, ran_more}
-use Rattle.pile.proofs.pile.play.Goals as goal
+use Rattle.pile.proofs.played.play.Goals as goal
 
 pub loop-call-init : goal.loop-call-init
 loop-call-init g c = λ f. ran_none _ _ _ _ _ _ f

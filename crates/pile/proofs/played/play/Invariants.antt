@@ -1,7 +1,7 @@
 use Rattle.std.proofs.Common.{take}
 use Rattle.pile.specs.Runs.{Fit}
 use Rattle.pile.proofs.Playing.{Ran}
-use Rattle.pile.proofs.pile.play.Given as goal
+use Rattle.pile.proofs.played.play.Given as goal
 
 abbrev pub invariant-loop-call : goal.invariant-loop-call
 invariant-loop-call g l =
