@@ -9,19 +9,21 @@ use Rattle.channel.specs.declared.device.Call.TheVariants.{Lower, Raise, Step}
 use Rattle.leaves.specs.declared.delays.Delays.{Delays}
 use Rattle.leaves.specs.declared.timed.Timed.{Timed}
 use Rattle.leaves.specs.declared.work.Work.{Work}
-use Rattle.leaves.specs.Timed.{timed_means, timed_makes, made}
+use Rattle.channel.specs.declared.device.QDevice as device
+use Rattle.leaves.specs.Timed.{timed_means, timed_timing, timed_makes, made}
 use Rattle.leaves.specs.Work.{work_makes}
 use Rattle.leaves.specs.Work as work
 use Rattle.leaves.specs.Jobs.{after_add}
-use Rattle.joins.specs.declared.rules.Kind.{Kind}
 use Rattle.joins.specs.declared.rules.Kind.TheVariants.{Distributor, Sequencer}
+use Rattle.joins.specs.declared.rule.Rule as rule
+use Rattle.joins.specs.declared.rule.Parallel.{Parallel}
+use Rattle.joins.specs.declared.rule.Serial.{Serial}
 use Rattle.joins.specs.declared.join.Join.{Join}
-use Rattle.joins.specs.declared.join.Parallel.{Parallel}
-use Rattle.joins.specs.declared.join.Serial.{Serial}
-use Rattle.joins.specs.Join.{join_makes}
+use Rattle.joins.specs.Join.{join_makes, Made}
 use Rattle.converter.specs.declared.converter.Converter.{Converter}
 use Rattle.converter.specs.declared.stack.PCall.{PCall}
 use Rattle.converter.specs.declared.stack.PCall.TheVariants as ask
+use Rattle.converter.specs.Converter.{StartMade}
 use Rattle.converter.specs.Stack.{p_makes}
 use Rattle.lines.specs.declared.flaw.Flaw.TheVariants.{NoSuchLine}
 use Rattle.topology.specs.declared.fault.Fault.TheVariants.{BadLine}
@@ -54,32 +56,40 @@ abbrev pub leaf : (tag a w k : ℕ) → 1 ≤ a → 1 ≤ w → Timed
 leaf tag a w k h i = made tag (delays a w h i) k
 
 abbrev pub told_phase : Timed → Phase
-told_phase t = t.phase
+told_phase t = t.end.phase
 
 -- phase, and the jobs that wait
 abbrev pub told_work : Work → Phase × ℕ
-told_work v = (v.phase, v.jobs)
+told_work v = (v.end.phase, v.jobs)
 
--- a join of two timed leaves, just made
-abbrev pub joins : {R : Type 0} → R → Timed → Timed → Join R Timed Timed
-joins r x y = record { rule = r; phase = Stopped; denier = None; first = x; second = y }
+-- what the trait of devices says of a timed leaf, and the trait of rules of both rules
+abbrev pub timed : device.Ghosts Timed
+timed = record { means = timed_means; timing = timed_timing; makes = timed_makes }
 
-abbrev pub JoinGoes : {R : Type 0} → Kind → Call → Join R Timed Timed → Join R Timed Timed → Type 0
-JoinGoes k = join_makes k timed_means timed_makes timed_means timed_makes
+abbrev pub parallel : rule.Ghosts Parallel
+parallel = record { KIND = Distributor }
 
--- phase and denier
-abbrev pub told_join : {R : Type 0} → Join R Timed Timed → Phase × Option ℕ
-told_join j = (j.phase, j.denier)
+abbrev pub serial : rule.Ghosts Serial
+serial = record { KIND = Sequencer }
 
--- a converter over a timed leaf, just made
-abbrev pub converts : Timed → Converter Timed
-converts t = record { device = t; phase = p.Stable; state = 0; asked = 0; denier = None }
+-- phase and denier of a join of two timed leaves
+abbrev pub told_join : {R : Type 0} {r : rule.Ghosts R} → Join R Timed Timed r timed timed → Phase × Option ℕ
+told_join j = (j.end.phase, j.end.denier)
 
-abbrev pub ConverterGoes : PCall → Converter Timed → Converter Timed → Type 0
-ConverterGoes c x y = (b : Bool) × p_makes timed_means timed_makes c b x y
+-- however a distributor of these leaves was made, and however these calls go, this is told
+abbrev pub DistributorTells : Timed → Timed → List Call → List (Phase × Option ℕ) → Type 0
+DistributorTells x y calls seen =
+    (j : Join Parallel Timed Timed parallel timed timed) → Made x y j → Tells join_makes told_join j calls seen
+
+abbrev pub SequencerTells : Timed → Timed → List Call → List (Phase × Option ℕ) → Type 0
+SequencerTells x y calls seen =
+    (j : Join Serial Timed Timed serial timed timed) → Made x y j → Tells join_makes told_join j calls seen
+
+abbrev pub ConverterGoes : PCall → Converter Timed timed → Converter Timed timed → Type 0
+ConverterGoes c x y = (b : Bool) × p_makes c b x y
 
 -- phase, state and denier
-abbrev pub told_converter : Converter Timed → PPhase × ℕ × Option ℕ
+abbrev pub told_converter : Converter Timed timed → PPhase × ℕ × Option ℕ
 told_converter c = (c.phase, c.state, c.denier)
 
 pub record WorkedPlays : Type 0 where
@@ -101,27 +111,27 @@ pub record WorkedPlays : Type 0 where
       ((Request, 2) ∷ (Request, 1) ∷ (Denied, 1) ∷ [])
   -- both deny at once: Denied at step 2, and the first is told. False where the second is noted first,
   -- or where a join is at Denied while its devices are
-  pub both_deny : (r : Parallel) (h i : 1 ≤ 1)
-      → Tells (JoinGoes Distributor) told_join (joins r (leaf 1 1 1 1 h i) (leaf 2 1 1 1 h i))
+  pub both_deny : (h i : 1 ≤ 1)
+      → DistributorTells (leaf 1 1 1 1 h i) (leaf 2 1 1 1 h i)
       (Raise ∷ Step ∷ Lower ∷ Step ∷ Step ∷ [])
       ((Exit, None) ∷ (Run, None) ∷ (Request, None) ∷ (Request, Some 1) ∷ (Denied, Some 1) ∷ [])
   -- the first answers at step 3, the second denied at step 1: Denied at step 4, tag 2. False where an unanswered request
   -- is withdrawn (Denied earlier), or where the latest denier is told
-  pub slow_first : (r : Parallel) (h : 1 ≤ 3) (i : 1 ≤ 1)
-      → Tells (JoinGoes Distributor) told_join (joins r (leaf 1 3 1 1 h i) (leaf 2 1 1 1 i i))
+  pub slow_first : (h : 1 ≤ 3) (i : 1 ≤ 1)
+      → DistributorTells (leaf 1 3 1 1 h i) (leaf 2 1 1 1 i i)
       (Raise ∷ Step ∷ Lower ∷ Step ∷ Step ∷ Step ∷ Step ∷ [])
       ((Exit, None) ∷ (Run, None) ∷ (Request, None) ∷ (Request, Some 2) ∷ (Request, Some 2) ∷ (Request, Some 2) ∷ (Denied, Some 2) ∷ [])
   -- two requests of a sequencer: the first names 2, the second 1. False where an older request's denier is taken
-  pub no_older : (r : Serial) (h : 1 ≤ 2) (i : 1 ≤ 1)
-      → Tells (JoinGoes Sequencer) told_join (joins r (leaf 1 2 1 2 h i) (leaf 2 1 1 1 i i))
+  pub no_older : (h : 1 ≤ 2) (i : 1 ≤ 1)
+      → SequencerTells (leaf 1 2 1 2 h i) (leaf 2 1 1 1 i i)
       (Raise ∷ Step ∷ Step ∷ Lower ∷ Step ∷ Step ∷ Step ∷ Step ∷ Step ∷ Raise ∷ Step ∷ Lower ∷ Step ∷ Step ∷ Step ∷ [])
       ((Exit, None) ∷ (Exit, None) ∷ (Run, None) ∷ (Request, None) ∷ (Request, None) ∷ (Request, None) ∷ (Request, Some 2)
       ∷ (Request, Some 2) ∷ (Denied, Some 2) ∷ (Continue, Some 2) ∷ (Run, Some 2)
       ∷ (Request, None) ∷ (Request, None) ∷ (Request, Some 1) ∷ (Denied, Some 1) ∷ [])
   -- ask 8 is accepted at step 1; after drop and a step, ask 0 is denied at step 2 and the state is still 8.
   -- False where the state changes with the ask, or where a converter answers while its device is at Denied
-  pub denied_ask : (h i : 1 ≤ 1)
-      → Tells ConverterGoes told_converter (converts (leaf 1 1 1 1 h i))
+  pub denied_ask : (h i : 1 ≤ 1) (c : Converter Timed timed) → StartMade (leaf 1 1 1 1 h i) c
+      → Tells ConverterGoes told_converter c
       (ask.Ask 8 ∷ ask.Step ∷ ask.Drop ∷ ask.Step ∷ ask.Ask 0 ∷ ask.Step ∷ ask.Step ∷ [])
       ((p.Request, 0, None) ∷ (p.Accept, 8, None) ∷ (p.Complete, 8, None) ∷ (p.Stable, 8, None)
       ∷ (p.Request, 8, None) ∷ (p.Request, 8, Some 1) ∷ (p.Denied, 8, Some 1) ∷ [])

@@ -1,5 +1,5 @@
 // The promise at piles of timed and work leaves: the premises of `play` are met, and nothing is left to assume.
-ghost use Rattle.plays.specs.Instances.{DistributorPromised, SequencerPromised, ConverterPromised};
+ghost use Rattle.pile.specs.Promise.{PromisedOf};
 
 use converter::converter::Converter;
 use converter::stack::PCall;
@@ -7,22 +7,23 @@ use joins::join::{Distributor, Sequencer};
 use leaves::timed::Timed;
 use leaves::work::Work;
 use pile::own::QCall;
-use pile::pile::play;
+use pile::pile::Pile;
+use pile::played::play;
 
 pub fn distributor_played(pile: &mut Distributor<Timed, Work>, calls: &[QCall])
-    ensures { DistributorPromised calls.now pile.old pile.new }
+    ensures { PromisedOf ⟦<Distributor<Timed, Work> as Pile>⟧ calls.now pile.old pile.new }
 {
     play(pile, calls)
 }
 
 pub fn sequencer_played(pile: &mut Sequencer<Timed, Work>, calls: &[QCall])
-    ensures { SequencerPromised calls.now pile.old pile.new }
+    ensures { PromisedOf ⟦<Sequencer<Timed, Work> as Pile>⟧ calls.now pile.old pile.new }
 {
     play(pile, calls)
 }
 
 pub fn converter_played(pile: &mut Converter<Sequencer<Timed, Work>>, calls: &[PCall])
-    ensures { ConverterPromised calls.now pile.old pile.new }
+    ensures { PromisedOf ⟦<Converter<Sequencer<Timed, Work>> as Pile>⟧ calls.now pile.old pile.new }
 {
     play(pile, calls)
 }
