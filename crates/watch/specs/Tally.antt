@@ -1,9 +1,5 @@
 -- The counts of a power-down, event by event.
-use Rattle.std.specs.Prelude.{ℕ, zero, suc, ◌+◌, min, max, None, Option}
-use Rattle.channel.specs.declared.phase.Phase.{Phase}
-use Rattle.channel.specs.declared.phase.Phase.TheVariants as q
-use Rattle.channel.specs.declared.pphase.PPhase.{PPhase}
-use Rattle.channel.specs.declared.pphase.PPhase.TheVariants as p
+use Rattle.std.specs.Prelude.{ℕ, zero, suc, ◌+◌, min, max, None}
 use Rattle.watch.specs.declared.tally.Ending.{Ending}
 use Rattle.watch.specs.declared.tally.Ending.TheVariants.{Accepted, Denied, Unanswered}
 use Rattle.watch.specs.declared.tally.Tally.{Tally}
@@ -50,8 +46,8 @@ with_request t = record {
   longest = t.longest;
 }
 
-abbrev pub with_answer : Ending → Option ℕ → Tally → Tally
-with_answer Accepted d t = record {
+abbrev pub with_answer : Ending → Tally → Tally
+with_answer Accepted t = record {
   requests = t.requests;
   accepted = more t.accepted;
   denied = t.denied;
@@ -59,7 +55,7 @@ with_answer Accepted d t = record {
   steps = t.steps;
   longest = t.longest;
 }
-with_answer Denied d t = record {
+with_answer (Denied d) t = record {
   requests = t.requests;
   accepted = t.accepted;
   denied = more t.denied;
@@ -67,22 +63,4 @@ with_answer Denied d t = record {
   steps = t.steps;
   longest = t.longest;
 }
-with_answer Unanswered d t = t
-
--- a Q-Channel accepts a stop at Stopped
-abbrev pub ending_of : Phase → Ending
-ending_of q.Run = Unanswered
-ending_of q.Request = Unanswered
-ending_of q.Stopped = Accepted
-ending_of q.Exit = Unanswered
-ending_of q.Denied = Denied
-ending_of q.Continue = Unanswered
-
--- a P-Channel accepts a state at Accept
-abbrev pub p_ending_of : PPhase → Ending
-p_ending_of p.Stable = Unanswered
-p_ending_of p.Request = Unanswered
-p_ending_of p.Accept = Accepted
-p_ending_of p.Complete = Unanswered
-p_ending_of p.Denied = Denied
-p_ending_of p.Continue = Unanswered
+with_answer Unanswered t = t
