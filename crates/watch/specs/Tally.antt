@@ -12,14 +12,7 @@ abbrev pub none_yet : Tally
 none_yet = record { requests = 0; accepted = 0; denied = 0; denier = None; steps = 0; longest = 0 }
 
 abbrev pub with_step : Tally → Tally
-with_step t = record {
-  requests = t.requests;
-  accepted = t.accepted;
-  denied = t.denied;
-  denier = t.denier;
-  steps = more t.steps;
-  longest = t.longest;
-}
+with_step t = record t { steps = more t.steps }
 
 -- so many of them
 unfoldable pub with_steps : ℕ → Tally → Tally
@@ -27,40 +20,12 @@ with_steps zero t = t
 with_steps (suc n) t = with_step (with_steps n t)
 
 abbrev pub with_change : ℕ → Tally → Tally
-with_change n t = record {
-  requests = t.requests;
-  accepted = t.accepted;
-  denied = t.denied;
-  denier = t.denier;
-  steps = t.steps;
-  longest = max t.longest n;
-}
+with_change n t = record t { longest = max t.longest n }
 
 abbrev pub with_request : Tally → Tally
-with_request t = record {
-  requests = more t.requests;
-  accepted = t.accepted;
-  denied = t.denied;
-  denier = t.denier;
-  steps = t.steps;
-  longest = t.longest;
-}
+with_request t = record t { requests = more t.requests }
 
 abbrev pub with_answer : Ending → Tally → Tally
-with_answer Accepted t = record {
-  requests = t.requests;
-  accepted = more t.accepted;
-  denied = t.denied;
-  denier = t.denier;
-  steps = t.steps;
-  longest = t.longest;
-}
-with_answer (Denied d) t = record {
-  requests = t.requests;
-  accepted = t.accepted;
-  denied = more t.denied;
-  denier = d;
-  steps = t.steps;
-  longest = t.longest;
-}
+with_answer Accepted t = record t { accepted = more t.accepted }
+with_answer (Denied d) t = record t { denied = more t.denied; denier = d }
 with_answer Unanswered t = t

@@ -4,6 +4,7 @@ ghost use Rattle.watch.specs.Edges.{drive_edge, answer_edge, Follows, p_edge_of}
 
 use channel::phase::Phase;
 use channel::pphase::PPhase;
+use channel::signals::Signals;
 
 // The edge of a P-Channel, of which a call makes one at most: where it led, if there was one.
 pub fn p_edge(before: PPhase, after: PPhase) -> Option<PPhase>

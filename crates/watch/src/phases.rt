@@ -6,8 +6,9 @@ ghost use Rattle.watch.specs.Phases.{open_test, p_open_test, ending_of, p_ending
 use crate::tally::Ending;
 use channel::phase::Phase;
 use channel::pphase::PPhase;
+use channel::signals::Signals;
 
-pub trait WatchedPhase {
+pub trait WatchedPhase: Signals {
     ghost opens: { Self → Bool };
 
     ghost ending: { Self → Option ℕ → Ending };

@@ -11,6 +11,7 @@ pub enum Ending {
     Unanswered,
 }
 
+// Closed, so that only events change a count.
 #[derive(Clone, Copy, PartialEq, Eq, Debug)]
 pub struct Tally {
     requests: u32,
