@@ -4,27 +4,21 @@ use Rattle.channel.specs.declared.phase.Phase.{Phase}
 use Rattle.channel.specs.declared.pphase.PPhase.{PPhase}
 use Rattle.channel.specs.declared.pphase.PPhase.TheVariants as p
 use Rattle.channel.specs.Calls.{StepTo}
-use Rattle.channel.specs.Timing.{Timing, Timely, Ticked}
-use Rattle.pile.specs.Views.{Power, p_end, InTime}
+use Rattle.channel.specs.Timing.{Timing, Ticked}
+use Rattle.pile.specs.Views.{Power, p_end}
 use Rattle.pile.specs.Calls.{tick, Runs}
 use Rattle.pile.specs.Runs.{Linked}
 use Rattle.converter.specs.declared.rules.Task.{Task}
 use Rattle.converter.specs.Rules.{answered, next_phase}
 use Rattle.converter.specs.Converter.{view_of, time_of, ConverterOrder}
-use Rattle.converter.proofs.Whole.{fits}
-use Rattle.powerdown.specs.Edges.{open_test, p_open_test}
-use Rattle.powerdown.specs.Design.{row_means, row_time, RowOrder, Island, IslandReady, island_changing, island_left}
-use Rattle.powerdown.specs.Watched.{Pending, Advanced}
-
-pub q_pending : (p : Phase) (t : Timing) → Timely p t → t.bound ≡ 6 → Pending (open_test p) t.left 6
-q_pending p t k b = record { some_left = grind arith; at_most = grind arith }
+use Rattle.watch.specs.Phases.{open_test, p_open_test}
+use Rattle.powerdown.specs.Laws.{island_pending}
+use Rattle.powerdown.specs.Design.{row_means, row_time, RowOrder, PowerTop, IslandReady, island_changing, island_left}
+use Rattle.watch.specs.Watched.{Advanced}
 
 pub q_fewer : (p q : Phase) (t u : Timing) → StepTo p q → Ticked p q t u
     → open_test p ≡ true → open_test q ≡ true → u.left < t.left
 q_fewer p q t u to k a b = grind arith
-
-p_pending : (q : PPhase) (s : Power) (t : Timing) → InTime (p_end q s) t → t.bound ≡ 32 → Pending (p_open_test q) t.left 32
-p_pending q s t i b = record { some_left = grind arith; at_most = grind arith }
 
 -- a request that is still open is at Request
 still_asked : (k : Task) (n : Bool) (x : Phase) → p_open_test (answered k n x) ≡ true → answered k n x ≡ p.Request
@@ -39,10 +33,7 @@ p_fewer p.Complete r s z k n x t u e h a b = grind arith
 p_fewer p.Denied r s z k n x t u e h a b = grind arith
 p_fewer p.Continue r s z k n x t u e h a b = grind arith
 
-pub island_pending : (c : Island) → IslandReady c → Pending (island_changing c) (island_left c) 32
-island_pending c r = p_pending _ _ _ (fits RowOrder row_means row_time c r.in_order).in_time r.bound
-
-pub island_advanced : (b c : Island) (k : Task) (n : Bool) (x : Phase) → IslandReady b → c.phase ≡ next_phase b.phase k n x
+pub island_advanced : (b c : PowerTop) (k : Task) (n : Bool) (x : Phase) → IslandReady b → c.phase ≡ next_phase b.phase k n x
     → Linked (ConverterOrder RowOrder row_means row_time) (view_of row_means) (time_of row_means row_time) tick true b c
     → Advanced IslandReady island_changing island_left 32 b c
 island_advanced b c k n x r e l =

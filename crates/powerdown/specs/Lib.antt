@@ -1,4 +1,3 @@
-pub mod Edges
 pub mod Design
-pub mod Watched
-pub mod Tally
+pub mod Laws
+pub mod Rounds

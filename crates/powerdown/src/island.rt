@@ -1,12 +1,14 @@
 // A power island: two masters stop before the memory that they use and return after it,
 // and a converter lets a P-Channel controller ask for a power state.
-ghost use Rattle.std.specs.Prelude.{◌≡◌};
-ghost use Rattle.powerdown.specs.Design.{IslandReady, island_changing, island_left};
+ghost use Rattle.std.specs.Prelude.{◌≡◌, ◌≤◌, IfOk, OnOk};
+ghost use Rattle.converter.specs.Converter.{ask_answer, drop_answer};
+ghost use Rattle.watch.specs.Phases.{p_ending_of};
+ghost use Rattle.powerdown.specs.Rounds.{Seen, Asked, Unless};
+ghost use Rattle.powerdown.specs.Design.{IslandReady, island_changing, island_left, island_stepped};
+ghost use Rattle.powerdown.specs.Laws.{island_pending};
 
-use crate::print::{CPU, DMA, MEM, print_edge, print_ending, print_p_edge};
-use crate::settle::{Watched, settle};
-use crate::tally::{Tally, p_ending_of};
-use crate::watch::{answer_edge, drive_edge, p_edge, p_is_open};
+use crate::print::{CPU, Change, DMA, MEM, print_edge};
+use crate::rounds::{count_answer, see_through};
 use channel::device::QDevice;
 use channel::phase::Phase;
 use channel::pphase::PPhase;
@@ -15,22 +17,18 @@ use joins::join::{Distributor, Sequencer};
 use leaves::timed::Timed;
 use leaves::work::Work;
 use std::io;
-
-// Twice the sequencer's bound, which is twice the sum of 6, the masters', and 2, the memory's.
-pub const BOUND: u32 = 32;
+use watch::edges::p_edge;
+use watch::phases::WatchedPhase;
+use watch::settle::Watched;
+use watch::tally::Tally;
 
 const STOP: u8 = 0;
 
 const RUN: u8 = 8;
 
-pub type Island = Converter<Sequencer<Distributor<Timed, Work>, Timed>>;
-
-// The CPU denies every second request that reaches it.
-fn compose() -> Island
-    ensures { IslandReady result }
-{
-    let masters = Distributor::new(Timed::new(CPU, 3, 2, 2), Work::new(DMA, 1));
-    Converter::new(Sequencer::new(masters, Timed::new(MEM, 2, 1, 0)))
+#[derive(Drop)]
+pub struct Island {
+    power: Converter<Sequencer<Distributor<Timed, Work>, Timed>>,
 }
 
 // The phases of all six channels.
@@ -44,105 +42,116 @@ struct Phases {
     mem: Phase,
 }
 
-fn phases_of(design: &Island) -> Phases {
-    let row = design.device();
-    let masters = row.first();
-    Phases {
-        power: design.phase(),
-        row: row.phase(),
-        masters: masters.phase(),
-        cpu: masters.first().phase(),
-        dma: masters.second().phase(),
-        mem: row.second().phase(),
+// A step's edges: each layer's drives before those of the layer below, and its answers after them.
+fn print_edges(rt: &impl Print, step: u32, old: Phases, new: Phases) -> io::Result<()> {
+    let row = Change("row", old.row, new.row);
+    let masters = Change("masters", old.masters, new.masters);
+    let cpu = Change("cpu", old.cpu, new.cpu);
+    let dma = Change("dma", old.dma, new.dma);
+    let mem = Change("mem", old.mem, new.mem);
+    for change in [row, masters, mem, cpu, dma] {
+        change.print_drive(rt, step)?;
     }
-}
-
-// The drives of a step, each layer's before those of the layer below.
-fn print_drives(rt: &HostRuntime, step: u32, old: Phases, new: Phases) -> io::Result<()> {
-    print_edge(rt, step, "row", drive_edge(old.row, new.row))?;
-    print_edge(rt, step, "masters", drive_edge(old.masters, new.masters))?;
-    print_edge(rt, step, "mem", drive_edge(old.mem, new.mem))?;
-    print_edge(rt, step, "cpu", drive_edge(old.cpu, new.cpu))?;
-    print_edge(rt, step, "dma", drive_edge(old.dma, new.dma))
-}
-
-// The answers of a step, each layer's after those of the layer below.
-fn print_answers(rt: &HostRuntime, step: u32, old: Phases, new: Phases) -> io::Result<()> {
-    print_edge(rt, step, "cpu", answer_edge(old.cpu, new.cpu))?;
-    print_edge(rt, step, "dma", answer_edge(old.dma, new.dma))?;
-    print_edge(rt, step, "masters", answer_edge(old.masters, new.masters))?;
-    print_edge(rt, step, "mem", answer_edge(old.mem, new.mem))?;
-    print_edge(rt, step, "row", answer_edge(old.row, new.row))?;
-    print_p_edge(rt, step, "power", p_edge(old.power, new.power))
+    for change in [cpu, dma, masters, mem, row] {
+        change.print_answer(rt, step)?;
+    }
+    print_edge(rt, step, "power", p_edge(old.power, new.power))
 }
 
 impl Watched for Island {
-    ghost ready = { IslandReady };
+    ghost ready = { λ d. IslandReady d.power };
 
-    ghost changing = { island_changing };
+    ghost changing = { λ d. island_changing d.power };
 
-    ghost left = { island_left };
+    ghost left = { λ d. island_left d.power };
 
-    ghost most = { 32 };
+    ghost stepped = { λ d e. island_stepped d.power e.power };
 
-    fn bound(&self) -> u32 {
-        BOUND
-    }
+    ghost BOUND = { 32 };
+
+    // Twice the sequencer's bound, which is twice the sum of 6, the masters', and 2, the memory's.
+    const BOUND: u32 = 32;
 
     fn is_changing(&self) -> bool {
-        p_is_open(self.phase())
+        self.power.phase().is_open()
     }
 
-    fn watch_step(&mut self, rt: &HostRuntime, tally: &mut Tally) -> io::Result<()> {
-        let old = phases_of(self);
-        self.step();
-        tally.step();
-        let new = phases_of(self);
-        print_drives(rt, tally.steps(), old, new)?;
-        print_answers(rt, tally.steps(), old, new)
+    fn tell_step(&mut self, rt: &impl Print, number: u32) -> io::Result<()> {
+        let old = self.phases();
+        self.power.step();
+        print_edges(rt, number, old, self.phases())
     }
+
+    ghost pending = { λ d. island_pending d.power };
 }
 
-// Asks for a power state and sees it answered.
-fn ask(rt: &HostRuntime, design: &mut Island, tally: &mut Tally, state: u8) -> io::Result<()>
-    ensures { IslandReady design.old → IslandReady design.new }
-{
-    println!(rt; "ask for state {state}")?;
-    let old = design.phase();
-    if design.ask(state).is_err() {
-        return println!(rt; "  refused");
+impl Island {
+    // The CPU denies every second request that reaches it.
+    fn new() -> Self
+        ensures { IslandReady result.power }
+    {
+        let masters = Distributor::new(Timed::new(CPU, 3, 2, 2), Work::new(DMA, 1));
+        Island {
+            power: Converter::new(Sequencer::new(masters, Timed::new(MEM, 2, 1, 0))),
+        }
     }
-    tally.request();
-    print_p_edge(rt, tally.steps(), "power", p_edge(old, design.phase()))?;
-    settle(rt, design, tally)?;
-    let ending = p_ending_of(design.phase());
-    tally.answer(ending, design.denier());
-    print_ending(rt, ending, design.denier())
-}
 
-// Takes the request back once it is answered.
-fn take_back(rt: &HostRuntime, design: &mut Island, tally: &mut Tally) -> io::Result<()>
-    ensures { IslandReady design.old → IslandReady design.new }
-{
-    let old = design.phase();
-    if design.drop().is_err() {
-        return println!(rt; "  refused");
+    fn phases(&self) -> Phases {
+        let row = self.power.device();
+        let masters = row.first();
+        Phases {
+            power: self.power.phase(),
+            row: row.phase(),
+            masters: masters.phase(),
+            cpu: masters.first().phase(),
+            dma: masters.second().phase(),
+            mem: row.second().phase(),
+        }
     }
-    print_p_edge(rt, tally.steps(), "power", p_edge(old, design.phase()))?;
-    settle(rt, design, tally)?;
-    let state = design.state();
-    println!(rt; "  state {state}")
+
+    // Asks for a power state and sees it answered.
+    fn ask(&mut self, rt: &impl Print, tally: &mut Tally, state: u8) -> io::Result<()>
+        ensures counted { OnOk result (Unless (ask_answer self.old.power.phase state) tally.old tally.new (Asked 32 (p_ending_of self.new.power.phase self.new.power.denier) tally.old tally.new)) }
+        ensures kept { IslandReady self.old.power → IslandReady self.new.power }
+    {
+        println!(rt; "ask for state {state}")?;
+        let old = self.power.phase();
+        if self.power.ask(state).is_err() {
+            return println!(rt; "  refused");
+        }
+        tally.request();
+        print_edge(rt, tally.steps(), "power", p_edge(old, self.power.phase()))?;
+        see_through(rt, self, tally)?;
+        count_answer(rt, tally, self.power.phase().ending(self.power.denier()))
+    }
+
+    // Takes the request back once it is answered.
+    fn take_back(&mut self, rt: &impl Print, tally: &mut Tally) -> io::Result<()>
+        ensures counted { OnOk result (Unless (drop_answer self.old.power.phase) tally.old tally.new (Seen 32 tally.old tally.new)) }
+        ensures kept { IslandReady self.old.power → IslandReady self.new.power }
+    {
+        let old = self.power.phase();
+        if self.power.drop().is_err() {
+            return println!(rt; "  refused");
+        }
+        print_edge(rt, tally.steps(), "power", p_edge(old, self.power.phase()))?;
+        see_through(rt, self, tally)?;
+        println!(rt; "  state {}", self.power.state())
+    }
 }
 
 // Runs the island, stops it, runs it again, has a stop denied, and stops it.
-pub fn power_down(rt: &HostRuntime) -> io::Result<Tally> {
-    let mut design = compose();
+// No change took more steps than the bound.
+pub fn power_down(rt: &impl Print) -> io::Result<Tally>
+    ensures { IfOk result (λ t. t.longest ≤ 32) }
+{
+    let mut island = Island::new();
     let mut tally = Tally::new();
     println!(rt; "design: converter power over sequencer row of masters, then mem (timed 2 1 0)")?;
     println!(rt; "        masters: distributor over cpu (timed 3 2 2) and dma (work 1)")?;
     for state in [RUN, STOP, RUN, STOP, STOP] {
-        ask(rt, &mut design, &mut tally, state)?;
-        take_back(rt, &mut design, &mut tally)?;
+        island.ask(rt, &mut tally, state)?;
+        island.take_back(rt, &mut tally)?;
     }
     Ok(tally)
 }

@@ -2,20 +2,21 @@
 #![tactic(auto)]
 
 use std::io;
+use watch::settle::Watched;
 
 mod island;
 mod pair;
 mod print;
-mod settle;
-mod tally;
-mod watch;
+mod rounds;
 
+use island::Island;
+use pair::Pair;
 use print::print_tally;
 
 fn main(rt: HostRuntime) -> io::Result<()> {
     let first = pair::power_down(&rt)?;
     let second = island::power_down(&rt)?;
     println!(rt; "summary")?;
-    print_tally(&rt, "pair", &first, pair::BOUND)?;
-    print_tally(&rt, "island", &second, island::BOUND)
+    print_tally(&rt, "pair", &first, Pair::BOUND)?;
+    print_tally(&rt, "island", &second, Island::BOUND)
 }

@@ -1,11 +1,13 @@
 // A CPU that answers late and a DMA engine with jobs queued, under one distributor.
-ghost use Rattle.std.specs.Prelude.{◌≡◌};
-ghost use Rattle.powerdown.specs.Design.{PairReady, pair_changing, pair_left};
+ghost use Rattle.std.specs.Prelude.{◌≡◌, ◌≤◌, IfOk, OnOk};
+ghost use Rattle.channel.specs.Calls.{lower_answer, raise_answer};
+ghost use Rattle.watch.specs.Phases.{ending_of};
+ghost use Rattle.powerdown.specs.Rounds.{Seen, Asked, Unless};
+ghost use Rattle.powerdown.specs.Design.{PairReady, pair_changing, pair_left, pair_stepped};
+ghost use Rattle.powerdown.specs.Laws.{pair_pending};
 
-use crate::print::{CPU, DMA, print_edge, print_ending};
-use crate::settle::{Watched, settle};
-use crate::tally::{Tally, ending_of};
-use crate::watch::{answer_edge, drive_edge, is_open};
+use crate::print::{CPU, Change, DMA, print_edge};
+use crate::rounds::{count_answer, see_through};
 use channel::device::QDevice;
 use channel::phase::Phase;
 use joins::join::Distributor;
@@ -13,18 +15,14 @@ use leaves::timed::Timed;
 use leaves::work::Work;
 use leaves::worker::Worker;
 use std::io;
+use watch::edges::drive_edge;
+use watch::phases::WatchedPhase;
+use watch::settle::Watched;
+use watch::tally::Tally;
 
-// Twice the greater of 3, the CPU's bound, and 2, the DMA engine's.
-pub const BOUND: u32 = 6;
-
-pub type Pair = Distributor<Timed, Work>;
-
-// The CPU answers a stop at its third step and wakes in two; the DMA engine does one job
-// in a request before it denies.
-fn compose() -> Pair
-    ensures { PairReady result }
-{
-    Distributor::new(Timed::new(CPU, 3, 2, 0), Work::new(DMA, 1))
+#[derive(Drop)]
+pub struct Pair {
+    top: Distributor<Timed, Work>,
 }
 
 // The phases of all three channels.
@@ -35,102 +33,127 @@ struct Phases {
     dma: Phase,
 }
 
-fn phases_of(design: &Pair) -> Phases {
-    Phases {
-        top: design.phase(),
-        cpu: design.first().phase(),
-        dma: design.second().phase(),
-    }
-}
-
 // A step's edges in the order in which they came: drives, answers, and the distributor's own.
-fn print_edges(rt: &HostRuntime, step: u32, old: Phases, new: Phases) -> io::Result<()> {
-    print_edge(rt, step, "cpu", drive_edge(old.cpu, new.cpu))?;
-    print_edge(rt, step, "dma", drive_edge(old.dma, new.dma))?;
-    print_edge(rt, step, "cpu", answer_edge(old.cpu, new.cpu))?;
-    print_edge(rt, step, "dma", answer_edge(old.dma, new.dma))?;
-    print_edge(rt, step, "top", answer_edge(old.top, new.top))
+fn print_edges(rt: &impl Print, step: u32, old: Phases, new: Phases) -> io::Result<()> {
+    let top = Change("top", old.top, new.top);
+    let cpu = Change("cpu", old.cpu, new.cpu);
+    let dma = Change("dma", old.dma, new.dma);
+    for change in [cpu, dma] {
+        change.print_drive(rt, step)?;
+    }
+    for change in [cpu, dma, top] {
+        change.print_answer(rt, step)?;
+    }
+    Ok(())
 }
 
 impl Watched for Pair {
-    ghost ready = { PairReady };
+    ghost ready = { λ d. PairReady d.top };
 
-    ghost changing = { pair_changing };
+    ghost changing = { λ d. pair_changing d.top };
 
-    ghost left = { pair_left };
+    ghost left = { λ d. pair_left d.top };
 
-    ghost most = { 6 };
+    ghost stepped = { λ d e. pair_stepped d.top e.top };
 
-    fn bound(&self) -> u32 {
-        BOUND
-    }
+    ghost BOUND = { 6 };
+
+    // Twice the greater of 3, the CPU's bound, and 2, the DMA engine's.
+    const BOUND: u32 = 6;
 
     fn is_changing(&self) -> bool {
-        is_open(self.phase())
+        self.top.phase().is_open()
     }
 
-    fn watch_step(&mut self, rt: &HostRuntime, tally: &mut Tally) -> io::Result<()> {
-        let old = phases_of(self);
-        self.step();
-        tally.step();
-        print_edges(rt, tally.steps(), old, phases_of(self))
+    fn tell_step(&mut self, rt: &impl Print, number: u32) -> io::Result<()> {
+        let old = self.phases();
+        self.top.step();
+        print_edges(rt, number, old, self.phases())
     }
+
+    ghost pending = { λ d. pair_pending d.top };
 }
 
-// Raises the design: wakes it, or takes a denied request back.
-fn raise(rt: &HostRuntime, design: &mut Pair, tally: &mut Tally) -> io::Result<()>
-    ensures { PairReady design.old → PairReady design.new }
-{
-    let old = design.phase();
-    if design.raise().is_err() {
-        return println!(rt; "  refused");
+impl Pair {
+    // The CPU answers a stop at its third step and wakes in two; the DMA engine does one job
+    // in a request before it denies.
+    fn new() -> Self
+        ensures { PairReady result.top }
+    {
+        Pair {
+            top: Distributor::new(Timed::new(CPU, 3, 2, 0), Work::new(DMA, 1)),
+        }
     }
-    print_edge(rt, tally.steps(), "top", drive_edge(old, design.phase()))?;
-    settle(rt, design, tally)
-}
 
-// Asks for a stop and sees it answered.
-fn ask_stop(rt: &HostRuntime, design: &mut Pair, tally: &mut Tally) -> io::Result<()>
-    ensures { PairReady design.old → PairReady design.new }
-{
-    let old = design.phase();
-    if design.lower().is_err() {
-        return println!(rt; "  refused");
+    fn phases(&self) -> Phases {
+        Phases {
+            top: self.top.phase(),
+            cpu: self.top.first().phase(),
+            dma: self.top.second().phase(),
+        }
     }
-    tally.request();
-    print_edge(rt, tally.steps(), "top", drive_edge(old, design.phase()))?;
-    settle(rt, design, tally)?;
-    let ending = ending_of(design.phase());
-    tally.answer(ending, design.denier());
-    print_ending(rt, ending, design.denier())
-}
 
-// Lets the DMA engine work its jobs off at Run.
-fn drain(rt: &HostRuntime, design: &mut Pair, tally: &mut Tally) -> io::Result<()> {
-    let jobs = design.second().jobs();
-    for _ in 0..jobs {
-        design.watch_step(rt, tally)?;
+    // Raises the design: wakes it, or takes a denied request back.
+    fn raise(&mut self, rt: &impl Print, tally: &mut Tally) -> io::Result<()>
+        ensures counted { OnOk result (Unless (raise_answer self.old.top.phase) tally.old tally.new (Seen 6 tally.old tally.new)) }
+        ensures kept { PairReady self.old.top → PairReady self.new.top }
+    {
+        let old = self.top.phase();
+        if self.top.raise().is_err() {
+            return println!(rt; "  refused");
+        }
+        print_edge(rt, tally.steps(), "top", drive_edge(old, self.top.phase()))?;
+        see_through(rt, self, tally)
     }
-    let left = design.second().jobs();
-    println!(rt; "  {jobs} jobs before, {left} after")
+
+    // Asks for a stop and sees it answered.
+    fn ask_stop(&mut self, rt: &impl Print, tally: &mut Tally) -> io::Result<()>
+        ensures counted { OnOk result (Unless (lower_answer self.old.top.phase) tally.old tally.new (Asked 6 (ending_of self.new.top.phase self.new.top.denier) tally.old tally.new)) }
+        ensures kept { PairReady self.old.top → PairReady self.new.top }
+    {
+        let old = self.top.phase();
+        if self.top.lower().is_err() {
+            return println!(rt; "  refused");
+        }
+        tally.request();
+        print_edge(rt, tally.steps(), "top", drive_edge(old, self.top.phase()))?;
+        see_through(rt, self, tally)?;
+        count_answer(rt, tally, self.top.phase().ending(self.top.denier()))
+    }
+
+    // Lets the DMA engine work its jobs off at Run.
+    fn drain(&mut self, rt: &impl Print, tally: &mut Tally) -> io::Result<()>
+        ensures same_longest { tally.new.longest ≡ tally.old.longest }
+        ensures kept { PairReady self.old.top → PairReady self.new.top }
+    {
+        let jobs = self.top.second().jobs();
+        for _ in 0..jobs {
+            self.watch_step(rt, tally)?;
+        }
+        let left = self.top.second().jobs();
+        println!(rt; "  {jobs} jobs before, {left} after")
+    }
 }
 
 // Wakes the pair, has a stop denied, withdraws it, drains the work and stops.
-pub fn power_down(rt: &HostRuntime) -> io::Result<Tally> {
-    let mut design = compose();
+// No change took more steps than the bound.
+pub fn power_down(rt: &impl Print) -> io::Result<Tally>
+    ensures { IfOk result (λ t. t.longest ≤ 6) }
+{
+    let mut pair = Pair::new();
     let mut tally = Tally::new();
     println!(rt; "design: distributor top over cpu (timed 3 2 0) and dma (work 1)")?;
     println!(rt; "wake")?;
-    raise(rt, &mut design, &mut tally)?;
+    pair.raise(rt, &mut tally)?;
     println!(rt; "queue 9 jobs for dma")?;
-    let _ = design.job_for(DMA, 9);
+    let _ = pair.top.job_for(DMA, 9);
     println!(rt; "ask for a stop")?;
-    ask_stop(rt, &mut design, &mut tally)?;
+    pair.ask_stop(rt, &mut tally)?;
     println!(rt; "withdraw")?;
-    raise(rt, &mut design, &mut tally)?;
+    pair.raise(rt, &mut tally)?;
     println!(rt; "drain the work")?;
-    drain(rt, &mut design, &mut tally)?;
+    pair.drain(rt, &mut tally)?;
     println!(rt; "ask for a stop")?;
-    ask_stop(rt, &mut design, &mut tally)?;
+    pair.ask_stop(rt, &mut tally)?;
     Ok(tally)
 }

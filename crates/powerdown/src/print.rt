@@ -1,8 +1,9 @@
-// Lines about channels: a name and three levels.
-use crate::tally::{Ending, Tally};
+// Lines about channels, requests and counts.
 use channel::phase::Phase;
-use channel::pphase::PPhase;
-use std::io;
+use channel::signals::{Shown, Signals};
+use std::{fmt, io};
+use watch::edges::{answer_edge, drive_edge};
+use watch::tally::{Ending, Tally};
 
 pub const CPU: u32 = 1;
 
@@ -10,68 +11,77 @@ pub const DMA: u32 = 2;
 
 pub const MEM: u32 = 3;
 
-fn name_of(tag: u32) -> &'static str {
-    match tag {
-        CPU => "cpu",
-        DMA => "dma",
-        MEM => "mem",
-        _ => "?",
+// The name of the leaf of a tag.
+#[derive(Clone, Copy)]
+struct Leaf(u32);
+
+impl fmt::Display for Leaf {
+    fn fmt<W: fmt::Write>(&self, f: &mut fmt::Formatter<W>) -> fmt::Result {
+        f.write_str(match self.0 {
+            CPU => "cpu",
+            DMA => "dma",
+            MEM => "mem",
+            _ => "?",
+        })
     }
 }
 
-fn print_levels(
-    rt: &HostRuntime,
-    step: u32,
-    name: &str,
-    levels: (bool, bool, bool),
-) -> io::Result<()> {
-    let (request, accept, deny) = levels;
-    let (r, a, d) = (u8::from(request), u8::from(accept), u8::from(deny));
-    println!(rt; "  {step:>2} {name} {r}{a}{d}")
-}
+// How a request ended.
+#[derive(Clone, Copy)]
+pub struct Answer(pub Ending);
 
-// A channel has come to a phase: prints QREQn, QACCEPTn and QDENY.
-pub fn print_edge(rt: &HostRuntime, step: u32, name: &str, edge: Option<Phase>) -> io::Result<()> {
-    match edge {
-        Some(phase) => print_levels(rt, step, name, phase.levels()),
-        None => Ok(()),
-    }
-}
-
-// The same of a P-Channel: PREQ, PACCEPT and PDENY.
-pub fn print_p_edge(
-    rt: &HostRuntime,
-    step: u32,
-    name: &str,
-    edge: Option<PPhase>,
-) -> io::Result<()> {
-    match edge {
-        Some(phase) => print_levels(rt, step, name, phase.levels()),
-        None => Ok(()),
-    }
-}
-
-pub fn print_ending(rt: &HostRuntime, ending: Ending, denier: Option<u32>) -> io::Result<()> {
-    match (ending, denier) {
-        (Ending::Accepted, _) => println!(rt; "  accepted"),
-        (Ending::Denied, Some(tag)) => {
-            let name = name_of(tag);
-            println!(rt; "  denied by {name}")
+impl fmt::Display for Answer {
+    fn fmt<W: fmt::Write>(&self, f: &mut fmt::Formatter<W>) -> fmt::Result {
+        match self.0 {
+            Ending::Accepted => f.write_str("accepted"),
+            Ending::Denied { by: Some(tag) } => write!(f, "denied by {}", Leaf(tag)),
+            Ending::Denied { by: None } | Ending::Unanswered => f.write_str("not answered"),
         }
-        _ => println!(rt; "  not answered"),
     }
 }
 
-pub fn print_tally(rt: &HostRuntime, name: &str, tally: &Tally, bound: u32) -> io::Result<()> {
-    let requests = tally.requests();
-    let accepted = tally.accepted();
-    let denied = tally.denied();
-    let steps = tally.steps();
-    let longest = tally.longest();
-    println!(rt; "  {name}: {requests} requests, {accepted} accepted, {denied} denied")?;
-    if let Some(tag) = tally.denier() {
-        let leaf = name_of(tag);
-        println!(rt; "    denied by {leaf}, tag {tag}")?;
+// A channel has come to a phase.
+pub fn print_edge<P: Signals>(
+    rt: &impl Print,
+    step: u32,
+    name: &str,
+    edge: Option<P>,
+) -> io::Result<()> {
+    match edge {
+        Some(phase) => println!(rt; "  {step:>2} {name} {}", Shown(phase.levels())),
+        None => Ok(()),
     }
-    println!(rt; "    {steps} steps, {longest} in the longest change, of at most {bound}")
+}
+
+// A Q-Channel by name, with its phases before and after a step.
+#[derive(Clone, Copy)]
+pub struct Change(pub &'static str, pub Phase, pub Phase);
+
+impl Change {
+    pub fn print_drive(self, rt: &impl Print, step: u32) -> io::Result<()> {
+        let Change(name, old, new) = self;
+        print_edge(rt, step, name, drive_edge(old, new))
+    }
+
+    pub fn print_answer(self, rt: &impl Print, step: u32) -> io::Result<()> {
+        let Change(name, old, new) = self;
+        print_edge(rt, step, name, answer_edge(old, new))
+    }
+}
+
+pub fn print_tally(rt: &impl Print, name: &str, tally: &Tally, bound: u32) -> io::Result<()> {
+    println!(rt;
+        "  {name}: {} requests, {} accepted, {} denied",
+        tally.requests(),
+        tally.accepted(),
+        tally.denied(),
+    )?;
+    if let Some(tag) = tally.denier() {
+        println!(rt; "    denied by {}, tag {tag}", Leaf(tag))?;
+    }
+    println!(rt;
+        "    {} steps, {} in the longest change, of at most {bound}",
+        tally.steps(),
+        tally.longest(),
+    )
 }

@@ -1,27 +1,10 @@
 -- The edges of one step on a channel: a drive, then an answer.
-use Rattle.std.specs.Prelude.{◌≡◌, Bool, true, false, cond, ◌||◌, ◌⊎◌, Some, None, Option, ◌==◌}
+use Rattle.std.specs.Prelude.{◌≡◌, Bool, true, cond, ◌||◌, ◌⊎◌, Some, None, Option, ◌==◌}
 use Rattle.channel.specs.declared.phase.Phase.{Phase}
 use Rattle.channel.specs.declared.phase.Phase.TheVariants.{Run, Request, Stopped, Exit, Denied, Continue}
 use Rattle.channel.specs.declared.pphase.PPhase.{PPhase}
-use Rattle.channel.specs.declared.pphase.PPhase.TheVariants as p
 use Rattle.channel.specs.Phases.{number_of, allowed}
 use Rattle.channel.specs.PPhases.{p_allowed}
-
-abbrev pub open_test : Phase → Bool
-open_test Run = false
-open_test Request = true
-open_test Stopped = false
-open_test Exit = true
-open_test Denied = false
-open_test Continue = true
-
-abbrev pub p_open_test : PPhase → Bool
-p_open_test p.Stable = false
-p_open_test p.Request = true
-p_open_test p.Accept = false
-p_open_test p.Complete = true
-p_open_test p.Denied = false
-p_open_test p.Continue = true
 
 -- the edge of a P-Channel
 abbrev pub p_edge_of : PPhase → PPhase → Option PPhase

@@ -1,3 +1,4 @@
 pub mod Edges
+pub mod Phases
 pub mod Watched
 pub mod Tally

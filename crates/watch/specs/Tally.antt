@@ -1,9 +1,5 @@
 -- The counts of a power-down, event by event.
-use Rattle.std.specs.Prelude.{ℕ, zero, suc, ◌+◌, min, max, None, Option}
-use Rattle.channel.specs.declared.phase.Phase.{Phase}
-use Rattle.channel.specs.declared.phase.Phase.TheVariants as q
-use Rattle.channel.specs.declared.pphase.PPhase.{PPhase}
-use Rattle.channel.specs.declared.pphase.PPhase.TheVariants as p
+use Rattle.std.specs.Prelude.{ℕ, zero, suc, ◌+◌, min, max, None}
 use Rattle.watch.specs.declared.tally.Ending.{Ending}
 use Rattle.watch.specs.declared.tally.Ending.TheVariants.{Accepted, Denied, Unanswered}
 use Rattle.watch.specs.declared.tally.Tally.{Tally}
@@ -16,14 +12,7 @@ abbrev pub none_yet : Tally
 none_yet = record { requests = 0; accepted = 0; denied = 0; denier = None; steps = 0; longest = 0 }
 
 abbrev pub with_step : Tally → Tally
-with_step t = record {
-  requests = t.requests;
-  accepted = t.accepted;
-  denied = t.denied;
-  denier = t.denier;
-  steps = more t.steps;
-  longest = t.longest;
-}
+with_step t = record t { steps = more t.steps }
 
 -- so many of them
 unfoldable pub with_steps : ℕ → Tally → Tally
@@ -31,58 +20,12 @@ with_steps zero t = t
 with_steps (suc n) t = with_step (with_steps n t)
 
 abbrev pub with_change : ℕ → Tally → Tally
-with_change n t = record {
-  requests = t.requests;
-  accepted = t.accepted;
-  denied = t.denied;
-  denier = t.denier;
-  steps = t.steps;
-  longest = max t.longest n;
-}
+with_change n t = record t { longest = max t.longest n }
 
 abbrev pub with_request : Tally → Tally
-with_request t = record {
-  requests = more t.requests;
-  accepted = t.accepted;
-  denied = t.denied;
-  denier = t.denier;
-  steps = t.steps;
-  longest = t.longest;
-}
+with_request t = record t { requests = more t.requests }
 
-abbrev pub with_answer : Ending → Option ℕ → Tally → Tally
-with_answer Accepted d t = record {
-  requests = t.requests;
-  accepted = more t.accepted;
-  denied = t.denied;
-  denier = t.denier;
-  steps = t.steps;
-  longest = t.longest;
-}
-with_answer Denied d t = record {
-  requests = t.requests;
-  accepted = t.accepted;
-  denied = more t.denied;
-  denier = d;
-  steps = t.steps;
-  longest = t.longest;
-}
-with_answer Unanswered d t = t
-
--- a Q-Channel accepts a stop at Stopped
-abbrev pub ending_of : Phase → Ending
-ending_of q.Run = Unanswered
-ending_of q.Request = Unanswered
-ending_of q.Stopped = Accepted
-ending_of q.Exit = Unanswered
-ending_of q.Denied = Denied
-ending_of q.Continue = Unanswered
-
--- a P-Channel accepts a state at Accept
-abbrev pub p_ending_of : PPhase → Ending
-p_ending_of p.Stable = Unanswered
-p_ending_of p.Request = Unanswered
-p_ending_of p.Accept = Accepted
-p_ending_of p.Complete = Unanswered
-p_ending_of p.Denied = Denied
-p_ending_of p.Continue = Unanswered
+abbrev pub with_answer : Ending → Tally → Tally
+with_answer Accepted t = record t { accepted = more t.accepted }
+with_answer (Denied d) t = record t { denied = more t.denied; denier = d }
+with_answer Unanswered t = t

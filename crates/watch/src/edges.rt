@@ -1,38 +1,16 @@
 // The edges that one step made on a channel, told from its phases before and after.
 ghost use Rattle.std.specs.Prelude.{◌≡◌};
-ghost use Rattle.watch.specs.Edges.{drive_edge, answer_edge, Follows, open_test, p_open_test, p_edge_of};
+ghost use Rattle.watch.specs.Edges.{drive_edge, answer_edge, Follows, p_edge_of};
 
 use channel::phase::Phase;
 use channel::pphase::PPhase;
-
-// Whether a phase ends by itself.
-pub fn is_open(phase: Phase) -> bool
-    ensures { result ≡ open_test phase }
-{
-    match phase {
-        Phase::Request | Phase::Exit | Phase::Continue => true,
-        _ => false,
-    }
-}
-
-pub fn p_is_open(phase: PPhase) -> bool
-    ensures { result ≡ p_open_test phase }
-{
-    match phase {
-        PPhase::Request | PPhase::Complete | PPhase::Continue => true,
-        _ => false,
-    }
-}
+use channel::signals::Signals;
 
 // The edge of a P-Channel, of which a call makes one at most: where it led, if there was one.
 pub fn p_edge(before: PPhase, after: PPhase) -> Option<PPhase>
     ensures { result ≡ p_edge_of before after }
 {
-    if before.allows(after) {
-        Some(after)
-    } else {
-        None
-    }
+    before.allows(after).then_some(after)
 }
 
 // The edge of QREQn, which comes first: where it led, if there was one.
@@ -54,9 +32,7 @@ pub fn answer_edge(before: Phase, after: Phase) -> Option<Phase>
 {
     match (before, after) {
         (Phase::Run | Phase::Request, Phase::Stopped | Phase::Denied) => Some(after),
-        (Phase::Stopped | Phase::Exit | Phase::Denied | Phase::Continue, Phase::Run) => Some(
-            Phase::Run,
-        ),
+        (Phase::Stopped | Phase::Exit | Phase::Denied | Phase::Continue, Phase::Run) => Some(after),
         _ => None,
     }
 }

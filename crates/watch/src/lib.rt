@@ -2,5 +2,6 @@
 #![tactic(auto)]
 
 pub mod edges;
+pub mod phases;
 pub mod settle;
 pub mod tally;

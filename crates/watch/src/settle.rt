@@ -17,41 +17,63 @@ pub trait Watched {
     // the steps left of it
     ghost left: { Self → ℕ };
 
-    ghost most: { ℕ };
-
     // what a step makes of the whole design
     ghost stepped: { Self → Self → Type 0 };
 
+    ghost BOUND: { ℕ };
+
     // The most steps that a change takes.
-    fn bound(&self) -> u32
-        ensures value { result ≡ most }
-        ensures pending { ready self.now → Pending (changing self.now) (left self.now) most };
+    const BOUND: u32;
 
     fn is_changing(&self) -> bool
         ensures { result ≡ changing self.now };
 
+    // One step, told under its number.
+    fn tell_step(&mut self, rt: &impl Print, number: u32) -> io::Result<()>
+        ensures exact { stepped self.old self.new }
+        ensures advanced { ready self.old → Advanced ready changing left BOUND self.old self.new };
+
     // One step, told and counted.
-    fn watch_step(&mut self, rt: &HostRuntime, tally: &mut Tally) -> io::Result<()>
+    fn watch_step(&mut self, rt: &impl Print, tally: &mut Tally) -> io::Result<()>
         ensures exact { stepped self.old self.new }
         ensures counted { tally.new ≡ with_step tally.old }
-        ensures advanced { ready self.old → Advanced ready changing left most self.old self.new };
+        ensures advanced { ready self.old → Advanced ready changing left BOUND self.old self.new }
+    {
+        tally.step();
+        self.tell_step(rt, tally.steps())
+    }
+
+    // never more steps left than the bound
+    ghost pending: { (d : Self) → ready d → Pending (changing d) (left d) BOUND };
 }
 
-// Steps until no change is under way, which takes at most as many steps as the bound.
-// Tells how many it took, and counts them.
-pub fn settle<W: Watched>(rt: &HostRuntime, design: &mut W, tally: &mut Tally) -> io::Result<u32>
-    ensures kept { W.Watched.ready design.old → W.Watched.ready design.new }
-    ensures settled { W.Watched.ready design.old → OnOk result (W.Watched.changing design.new ≡ false) }
-    ensures few { IfOk result (λ n. n ≤ W.Watched.most) }
-    ensures walked { IfOk result (λ n. Walked W.Watched.changing W.Watched.stepped n design.old design.new) }
+// Steps until no change is under way, which takes at most as many steps as the bound. Tells how many it took.
+fn walk<W: Watched>(rt: &impl Print, design: &mut W, tally: &mut Tally) -> io::Result<u32>
+    ensures kept { W.ready design.old → W.ready design.new }
+    ensures settled { W.ready design.old → OnOk result (W.changing design.new ≡ false) }
+    ensures few { IfOk result (λ n. n ≤ W.BOUND) }
+    ensures walked { IfOk result (λ n. Walked W.changing W.stepped n design.old design.new) }
+    ensures counted { IfOk result (λ n. tally.new ≡ with_steps n tally.old) }
+{
+    let bound = W::BOUND;
+    for taken in 0..bound {
+        if !design.is_changing() {
+            return Ok(taken);
+        }
+        design.watch_step(rt, tally)?;
+    }
+    Ok(bound)
+}
+
+// Sees a change to its end, and counts it.
+pub fn settle<W: Watched>(rt: &impl Print, design: &mut W, tally: &mut Tally) -> io::Result<u32>
+    ensures kept { W.ready design.old → W.ready design.new }
+    ensures settled { W.ready design.old → OnOk result (W.changing design.new ≡ false) }
+    ensures few { IfOk result (λ n. n ≤ W.BOUND) }
+    ensures walked { IfOk result (λ n. Walked W.changing W.stepped n design.old design.new) }
     ensures counted { IfOk result (λ n. tally.new ≡ with_change n (with_steps n tally.old)) }
 {
-    let bound = design.bound();
-    let mut taken = 0;
-    while taken < bound && design.is_changing() {
-        design.watch_step(rt, tally)?;
-        taken += 1;
-    }
+    let taken = walk(rt, design, tally)?;
     tally.change(taken);
     Ok(taken)
 }

@@ -1,41 +1,18 @@
 // What happened in a power-down. Counts stay at the greatest number.
 ghost use Rattle.std.specs.Prelude.{◌≡◌};
-ghost use Rattle.watch.specs.Tally.{none_yet, with_step, with_change, with_request, with_answer, ending_of, p_ending_of};
-
-use channel::phase::Phase;
-use channel::pphase::PPhase;
+ghost use Rattle.watch.specs.Tally.{none_yet, with_step, with_change, with_request, with_answer};
 
 // How a request stands.
-#[derive(Clone, Copy)]
+#[derive(Clone, Copy, PartialEq, Eq, Debug)]
 pub enum Ending {
     Accepted,
-    Denied,
+    // by the leaf of that tag
+    Denied { by: Option<u32> },
     Unanswered,
 }
 
-// The answer of a Q-Channel.
-pub fn ending_of(phase: Phase) -> Ending
-    ensures { result ≡ ending_of phase }
-{
-    match phase {
-        Phase::Stopped => Ending::Accepted,
-        Phase::Denied => Ending::Denied,
-        _ => Ending::Unanswered,
-    }
-}
-
-// The answer of a P-Channel.
-pub fn p_ending_of(phase: PPhase) -> Ending
-    ensures { result ≡ p_ending_of phase }
-{
-    match phase {
-        PPhase::Accept => Ending::Accepted,
-        PPhase::Denied => Ending::Denied,
-        _ => Ending::Unanswered,
-    }
-}
-
-#[derive(Clone, Copy)]
+// Closed, so that only events change a count.
+#[derive(Clone, Copy, PartialEq, Eq, Debug)]
 pub struct Tally {
     requests: u32,
     accepted: u32,
@@ -80,17 +57,15 @@ impl Tally {
         self.requests = self.requests.saturating_add(1);
     }
 
-    // How a request ended, and the denier then.
-    pub fn answer(&mut self, ending: Ending, denier: Option<u32>)
-        ensures { self.new ≡ with_answer ending denier self.old }
+    // A request was answered, or given up.
+    pub fn answer(&mut self, ending: Ending)
+        ensures { self.new ≡ with_answer ending self.old }
     {
         match ending {
-            Ending::Accepted => {
-                self.accepted = self.accepted.saturating_add(1);
-            }
-            Ending::Denied => {
+            Ending::Accepted => self.accepted = self.accepted.saturating_add(1),
+            Ending::Denied { by } => {
                 self.denied = self.denied.saturating_add(1);
-                self.denier = denier;
+                self.denier = by;
             }
             Ending::Unanswered => {}
         }
