@@ -6,15 +6,10 @@ use Rattle.channel.specs.declared.pphase.PPhase.TheVariants as p
 use Rattle.channel.specs.Calls.{StepTo}
 use Rattle.channel.specs.Timing.{Timing, Ticked}
 use Rattle.pile.specs.Views.{Power, p_end}
-use Rattle.pile.specs.Calls.{tick, Runs}
-use Rattle.pile.specs.Runs.{Linked}
+use Rattle.pile.specs.Calls.{Runs}
 use Rattle.converter.specs.declared.rules.Task.{Task}
 use Rattle.converter.specs.Rules.{answered, next_phase}
-use Rattle.converter.specs.Converter.{view_of, time_of, ConverterOrder}
 use Rattle.watch.specs.Phases.{open_test, p_open_test}
-use Rattle.powerdown.specs.Laws.{island_pending}
-use Rattle.powerdown.specs.Design.{row_means, row_time, RowOrder, PowerTop, IslandReady, island_changing, island_left}
-use Rattle.watch.specs.Watched.{Advanced}
 
 pub q_fewer : (p q : Phase) (t u : Timing) → StepTo p q → Ticked p q t u
     → open_test p ≡ true → open_test q ≡ true → u.left < t.left
@@ -24,7 +19,7 @@ q_fewer p q t u to k a b = grind arith
 still_asked : (k : Task) (n : Bool) (x : Phase) → p_open_test (answered k n x) ≡ true → answered k n x ≡ p.Request
 still_asked k n x o = grind arith
 
-p_fewer : (q r : PPhase) (s z : Power) (k : Task) (n : Bool) (x : Phase) (t u : Timing) → r ≡ next_phase q k n x
+pub p_fewer : (q r : PPhase) (s z : Power) (k : Task) (n : Bool) (x : Phase) (t u : Timing) → r ≡ next_phase q k n x
     → Runs (p_end q s) (p_end r z) t u → p_open_test q ≡ true → p_open_test r ≡ true → u.left < t.left
 p_fewer p.Stable r s z k n x t u e h a b = grind arith
 p_fewer p.Request r s z k n x t u e h a b = let i = still_asked k n x in h.fewer tt (grind arith)
@@ -32,14 +27,3 @@ p_fewer p.Accept r s z k n x t u e h a b = grind arith
 p_fewer p.Complete r s z k n x t u e h a b = grind arith
 p_fewer p.Denied r s z k n x t u e h a b = grind arith
 p_fewer p.Continue r s z k n x t u e h a b = grind arith
-
-pub island_advanced : (b c : PowerTop) (k : Task) (n : Bool) (x : Phase) → IslandReady b → c.phase ≡ next_phase b.phase k n x
-    → Linked (ConverterOrder RowOrder row_means row_time) (view_of row_means) (time_of row_means row_time) tick true b c
-    → Advanced IslandReady island_changing island_left 32 b c
-island_advanced b c k n x r e l =
-    let on : IslandReady c = record { in_order = l.fit.own; bound = l.timed.same_bound ∙ r.bound } in
-    record {
-      still = on;
-      pending = island_pending c on;
-      fewer = p_fewer b.phase c.phase _ _ k n x _ _ e l.timed;
-    }

@@ -8,10 +8,12 @@ use Rattle.channel.specs.declared.pphase.PPhase.{PPhase}
 use Rattle.channel.specs.declared.pphase.PPhase.TheVariants as p
 use Rattle.channel.specs.Calls.{Open}
 use Rattle.pile.specs.Views.{Power, p_end, Opened}
-use Rattle.converter.proofs.Whole.{fits}
+use Rattle.leaves.specs.Ordered.{timed_in_order, work_in_order}
+use Rattle.joins.specs.Ordered.{join_in_order}
+use Rattle.converter.specs.Shows.{converter_fits}
 use Rattle.watch.specs.Phases.{open_test, p_open_test}
 use Rattle.watch.specs.Watched.{Pending}
-use Rattle.powerdown.specs.Design.{Top, PairReady, pair_changing, pair_left, row_means, row_time, RowOrder, PowerTop, IslandReady, island_changing, island_left}
+use Rattle.powerdown.specs.Design.{Top, pair_time, pair_changing, pair_left, PowerTop, island_time, island_changing, island_left}
 
 opened : (x : Phase) → open_test x ≡ true → Open x
 opened q.Run o = false≢true o
@@ -29,18 +31,18 @@ p_opened p.Complete s o = tt
 p_opened p.Denied s o = false≢true o
 p_opened p.Continue s o = tt
 
-pub pair_pending : (d : Top) → PairReady d → Pending (pair_changing d) (pair_left d) 6
-pair_pending d r =
-    let t = r.in_order.timely in
+pub pair_pending : (d : Top) → (pair_time d).bound ≡ 6 → Pending (pair_changing d) (pair_left d) 6
+pair_pending d b =
+    let t = (join_in_order timed_in_order work_in_order d).timely in
     record {
-      some_left = λ o. t.some_left (opened d.phase o);
-      at_most = λ o. subst (λ b. pair_left d ≤ b) r.bound (t.at_most (opened d.phase o));
+      some_left = λ o. t.some_left (opened d.end.phase o);
+      at_most = λ o. subst (λ n. pair_left d ≤ n) b (t.at_most (opened d.end.phase o));
     }
 
-pub island_pending : (c : PowerTop) → IslandReady c → Pending (island_changing c) (island_left c) 32
-island_pending c r =
-    let t = (fits RowOrder row_means row_time c r.in_order).in_time in
+pub island_pending : (c : PowerTop) → (island_time c).bound ≡ 32 → Pending (island_changing c) (island_left c) 32
+island_pending c b =
+    let t = (converter_fits (join_in_order (join_in_order timed_in_order work_in_order) timed_in_order) c).in_time in
     record {
       some_left = λ o. t.some_left (p_opened c.phase _ o);
-      at_most = λ o. subst (λ b. island_left c ≤ b) r.bound (t.at_most (p_opened c.phase _ o));
+      at_most = λ o. subst (λ n. island_left c ≤ n) b (t.at_most (p_opened c.phase _ o));
     }

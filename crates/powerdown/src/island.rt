@@ -4,7 +4,7 @@ ghost use Rattle.std.specs.Prelude.{◌≡◌, ◌≤◌, IfOk, OnOk};
 ghost use Rattle.converter.specs.Converter.{ask_answer, drop_answer};
 ghost use Rattle.watch.specs.Phases.{p_ending_of};
 ghost use Rattle.powerdown.specs.Rounds.{Seen, Asked, Unless};
-ghost use Rattle.powerdown.specs.Design.{IslandReady, island_changing, island_left, island_stepped};
+ghost use Rattle.powerdown.specs.Design.{island_time, island_changing, island_left, island_stepped};
 ghost use Rattle.powerdown.specs.Laws.{island_pending};
 
 use crate::print::{CPU, Change, DMA, MEM, print_edge};
@@ -29,6 +29,7 @@ const RUN: u8 = 8;
 #[derive(Drop)]
 pub struct Island {
     power: Converter<Sequencer<Distributor<Timed, Work>, Timed>>,
+    ghost bound: { (island_time power).bound ≡ 32 },
 }
 
 // The phases of all six channels.
@@ -59,8 +60,6 @@ fn print_edges(rt: &impl Print, step: u32, old: Phases, new: Phases) -> io::Resu
 }
 
 impl Watched for Island {
-    ghost ready = { λ d. IslandReady d.power };
-
     ghost changing = { λ d. island_changing d.power };
 
     ghost left = { λ d. island_left d.power };
@@ -82,14 +81,12 @@ impl Watched for Island {
         print_edges(rt, number, old, self.phases())
     }
 
-    ghost pending = { λ d. island_pending d.power };
+    ghost pending = { λ d. island_pending d.power d.bound };
 }
 
 impl Island {
     // The CPU denies every second request that reaches it.
-    fn new() -> Self
-        ensures { IslandReady result.power }
-    {
+    fn new() -> Self {
         let masters = Distributor::new(Timed::new(CPU, 3, 2, 2), Work::new(DMA, 1));
         Island {
             power: Converter::new(Sequencer::new(masters, Timed::new(MEM, 2, 1, 0))),
@@ -111,8 +108,7 @@ impl Island {
 
     // Asks for a power state and sees it answered.
     fn ask(&mut self, rt: &impl Print, tally: &mut Tally, state: u8) -> io::Result<()>
-        ensures counted { OnOk result (Unless (ask_answer self.old.power.phase state) tally.old tally.new (Asked 32 (p_ending_of self.new.power.phase self.new.power.denier) tally.old tally.new)) }
-        ensures kept { IslandReady self.old.power → IslandReady self.new.power }
+        ensures { OnOk result (Unless (ask_answer self.old.power.phase state) tally.old tally.new (Asked 32 (p_ending_of self.new.power.phase self.new.power.denier) tally.old tally.new)) }
     {
         println!(rt; "ask for state {state}")?;
         let old = self.power.phase();
@@ -127,8 +123,7 @@ impl Island {
 
     // Takes the request back once it is answered.
     fn take_back(&mut self, rt: &impl Print, tally: &mut Tally) -> io::Result<()>
-        ensures counted { OnOk result (Unless (drop_answer self.old.power.phase) tally.old tally.new (Seen 32 tally.old tally.new)) }
-        ensures kept { IslandReady self.old.power → IslandReady self.new.power }
+        ensures { OnOk result (Unless (drop_answer self.old.power.phase) tally.old tally.new (Seen 32 tally.old tally.new)) }
     {
         let old = self.power.phase();
         if self.power.drop().is_err() {

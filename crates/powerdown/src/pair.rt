@@ -3,7 +3,7 @@ ghost use Rattle.std.specs.Prelude.{◌≡◌, ◌≤◌, IfOk, OnOk};
 ghost use Rattle.channel.specs.Calls.{lower_answer, raise_answer};
 ghost use Rattle.watch.specs.Phases.{ending_of};
 ghost use Rattle.powerdown.specs.Rounds.{Seen, Asked, Unless};
-ghost use Rattle.powerdown.specs.Design.{PairReady, pair_changing, pair_left, pair_stepped};
+ghost use Rattle.powerdown.specs.Design.{pair_time, pair_changing, pair_left, pair_stepped};
 ghost use Rattle.powerdown.specs.Laws.{pair_pending};
 
 use crate::print::{CPU, Change, DMA, print_edge};
@@ -23,6 +23,7 @@ use watch::tally::Tally;
 #[derive(Drop)]
 pub struct Pair {
     top: Distributor<Timed, Work>,
+    ghost bound: { (pair_time top).bound ≡ 6 },
 }
 
 // The phases of all three channels.
@@ -48,8 +49,6 @@ fn print_edges(rt: &impl Print, step: u32, old: Phases, new: Phases) -> io::Resu
 }
 
 impl Watched for Pair {
-    ghost ready = { λ d. PairReady d.top };
-
     ghost changing = { λ d. pair_changing d.top };
 
     ghost left = { λ d. pair_left d.top };
@@ -71,15 +70,13 @@ impl Watched for Pair {
         print_edges(rt, number, old, self.phases())
     }
 
-    ghost pending = { λ d. pair_pending d.top };
+    ghost pending = { λ d. pair_pending d.top d.bound };
 }
 
 impl Pair {
     // The CPU answers a stop at its third step and wakes in two; the DMA engine does one job
     // in a request before it denies.
-    fn new() -> Self
-        ensures { PairReady result.top }
-    {
+    fn new() -> Self {
         Pair {
             top: Distributor::new(Timed::new(CPU, 3, 2, 0), Work::new(DMA, 1)),
         }
@@ -95,8 +92,7 @@ impl Pair {
 
     // Raises the design: wakes it, or takes a denied request back.
     fn raise(&mut self, rt: &impl Print, tally: &mut Tally) -> io::Result<()>
-        ensures counted { OnOk result (Unless (raise_answer self.old.top.phase) tally.old tally.new (Seen 6 tally.old tally.new)) }
-        ensures kept { PairReady self.old.top → PairReady self.new.top }
+        ensures { OnOk result (Unless (raise_answer self.old.top.end.phase) tally.old tally.new (Seen 6 tally.old tally.new)) }
     {
         let old = self.top.phase();
         if self.top.raise().is_err() {
@@ -108,8 +104,7 @@ impl Pair {
 
     // Asks for a stop and sees it answered.
     fn ask_stop(&mut self, rt: &impl Print, tally: &mut Tally) -> io::Result<()>
-        ensures counted { OnOk result (Unless (lower_answer self.old.top.phase) tally.old tally.new (Asked 6 (ending_of self.new.top.phase self.new.top.denier) tally.old tally.new)) }
-        ensures kept { PairReady self.old.top → PairReady self.new.top }
+        ensures { OnOk result (Unless (lower_answer self.old.top.end.phase) tally.old tally.new (Asked 6 (ending_of self.new.top.end.phase self.new.top.end.denier) tally.old tally.new)) }
     {
         let old = self.top.phase();
         if self.top.lower().is_err() {
@@ -123,8 +118,7 @@ impl Pair {
 
     // Lets the DMA engine work its jobs off at Run.
     fn drain(&mut self, rt: &impl Print, tally: &mut Tally) -> io::Result<()>
-        ensures same_longest { tally.new.longest ≡ tally.old.longest }
-        ensures kept { PairReady self.old.top → PairReady self.new.top }
+        ensures { tally.new.longest ≡ tally.old.longest }
     {
         let jobs = self.top.second().jobs();
         for _ in 0..jobs {

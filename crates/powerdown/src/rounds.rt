@@ -10,8 +10,7 @@ use watch::tally::{Ending, Tally};
 
 // Sees a change to its end and tells how long it took.
 pub fn see_through<W: Watched>(rt: &impl Print, design: &mut W, tally: &mut Tally) -> io::Result<()>
-    ensures kept { W.ready design.old → W.ready design.new }
-    ensures settled { W.ready design.old → OnOk result (W.changing design.new ≡ false) }
+    ensures settled { OnOk result (W.changing design.new ≡ false) }
     ensures seen { OnOk result (Seen W.BOUND tally.old tally.new) }
 {
     let taken = settle(rt, design, tally)?;

@@ -6,11 +6,9 @@ pub record Pending (changing : Bool) (left bound : ℕ) : Type 0 where
   pub some_left : changing ≡ true → 1 ≤ left
   pub at_most : changing ≡ true → left ≤ bound
 
--- still ready, one step on
-pub record Advanced {S : Type 0} (ready : S → Type 0) (changing : S → Bool) (left : S → ℕ) (bound : ℕ) (x y : S) : Type 0 where
-  pub still : ready y
-  pub pending : Pending (changing y) (left y) bound
-  pub fewer : changing x ≡ true → changing y ≡ true → left y < left x
+-- a step within a change lowers the steps left
+abbrev pub Fewer : {S : Type 0} → (S → Bool) → (S → ℕ) → S → S → Type 0
+Fewer changing left x y = changing x ≡ true → changing y ≡ true → left y < left x
 
 -- one step more, made while a change was under way
 pub record Further {S : Type 0} (before : S → Type 0) (changing : S → Bool) (stepped : S → S → Type 0) (y : S) : Type 0 where

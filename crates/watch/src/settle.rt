@@ -1,6 +1,6 @@
 // Seeing a change of a design to its end.
 ghost use Rattle.std.specs.Prelude.{◌≡◌, ℕ, ◌≤◌, Bool, false, IfOk, OnOk};
-ghost use Rattle.watch.specs.Watched.{Pending, Advanced, Walked};
+ghost use Rattle.watch.specs.Watched.{Pending, Fewer, Walked};
 ghost use Rattle.watch.specs.Tally.{with_step, with_steps, with_change};
 
 use crate::tally::Tally;
@@ -8,9 +8,6 @@ use std::io;
 
 // A design whose steps are watched.
 pub trait Watched {
-    // in order, with the bound that it tells
-    ghost ready: { Self → Type 0 };
-
     // whether a change is under way
     ghost changing: { Self → Bool };
 
@@ -31,26 +28,25 @@ pub trait Watched {
     // One step, told under its number.
     fn tell_step(&mut self, rt: &impl Print, number: u32) -> io::Result<()>
         ensures exact { stepped self.old self.new }
-        ensures advanced { ready self.old → Advanced ready changing left BOUND self.old self.new };
+        ensures fewer { Fewer changing left self.old self.new };
 
     // One step, told and counted.
     fn watch_step(&mut self, rt: &impl Print, tally: &mut Tally) -> io::Result<()>
         ensures exact { stepped self.old self.new }
         ensures counted { tally.new ≡ with_step tally.old }
-        ensures advanced { ready self.old → Advanced ready changing left BOUND self.old self.new }
+        ensures fewer { Fewer changing left self.old self.new }
     {
         tally.step();
         self.tell_step(rt, tally.steps())
     }
 
     // never more steps left than the bound
-    ghost pending: { (d : Self) → ready d → Pending (changing d) (left d) BOUND };
+    ghost pending: { (d : Self) → Pending (changing d) (left d) BOUND };
 }
 
 // Steps until no change is under way, which takes at most as many steps as the bound. Tells how many it took.
 fn walk<W: Watched>(rt: &impl Print, design: &mut W, tally: &mut Tally) -> io::Result<u32>
-    ensures kept { W.ready design.old → W.ready design.new }
-    ensures settled { W.ready design.old → OnOk result (W.changing design.new ≡ false) }
+    ensures settled { OnOk result (W.changing design.new ≡ false) }
     ensures few { IfOk result (λ n. n ≤ W.BOUND) }
     ensures walked { IfOk result (λ n. Walked W.changing W.stepped n design.old design.new) }
     ensures counted { IfOk result (λ n. tally.new ≡ with_steps n tally.old) }
@@ -67,8 +63,7 @@ fn walk<W: Watched>(rt: &impl Print, design: &mut W, tally: &mut Tally) -> io::R
 
 // Sees a change to its end, and counts it.
 pub fn settle<W: Watched>(rt: &impl Print, design: &mut W, tally: &mut Tally) -> io::Result<u32>
-    ensures kept { W.ready design.old → W.ready design.new }
-    ensures settled { W.ready design.old → OnOk result (W.changing design.new ≡ false) }
+    ensures settled { OnOk result (W.changing design.new ≡ false) }
     ensures few { IfOk result (λ n. n ≤ W.BOUND) }
     ensures walked { IfOk result (λ n. Walked W.changing W.stepped n design.old design.new) }
     ensures counted { IfOk result (λ n. tally.new ≡ with_change n (with_steps n tally.old)) }
