@@ -4,13 +4,13 @@ ghost use Rattle.channel.specs.PPhases.{p_levels};
 ghost use Rattle.channel.specs.Means.{tags};
 ghost use Rattle.channel.specs.Calls.{Reset};
 ghost use Rattle.pile.specs.Calls.{stop, back, tick};
-ghost use Rattle.pile.specs.Runs.{Fit, Linked};
 ghost use Rattle.pile.specs.Views.{Begun};
-ghost use Rattle.converter.specs.Converter.{p_refusal_number, ask_answer, drop_answer, after_ask, drop_at, StepMade, StartMade, ConverterOrder, view_of, time_of};
+ghost use Rattle.converter.specs.Converter.{p_refusal_number, ask_answer, drop_answer, after_ask, drop_at, StepMade, StartMade, ConverterOrder, ConverterFit, Links, view_of, time_of};
 
-use crate::rules::{Mode, drive_for, mode_of, next_phase, next_state, note_for, task_for};
+use crate::rules::{Mode, drive_for, next_phase, next_state, note_for, task_for};
 use channel::device::QDevice;
 use channel::pphase::PPhase;
+use channel::signals::Signals;
 use joins::join::make_drive;
 use joins::rules::heard_of;
 
@@ -18,22 +18,19 @@ use joins::rules::heard_of;
 #[derive(Clone, Copy, PartialEq, Eq, Debug)]
 pub enum PRefusal {
     // ask elsewhere than at Stable
-    AskNotAtStable,
+    AskNotAtStable = 40,
     // ask for a state that is unused or above 15
-    StateUnused,
+    StateUnused = 41,
     // drop elsewhere than at Accept or Denied
-    DropNotAnswered,
+    DropNotAnswered = 42,
 }
 
-impl PRefusal {
-    pub fn number(self) -> u8
-        ensures { result ≡ p_refusal_number self }
-    {
-        match self {
-            PRefusal::AskNotAtStable => 40,
-            PRefusal::StateUnused => 41,
-            PRefusal::DropNotAnswered => 42,
-        }
+// A refusal's number.
+impl From<PRefusal> for u8 {
+    ghost from_gives = { λ why n. n ≡ p_refusal_number why };
+
+    fn from(why: PRefusal) -> u8 {
+        why as u8
     }
 }
 
@@ -83,15 +80,14 @@ impl<D> Converter<D> {
 
 impl<D: QDevice> Converter<D> {
     // A converter over a device, which it resets. It starts at Stable in state 0.
-    pub fn new(device: D) -> Self
+    pub fn new(mut device: D) -> Self
         ensures made { StartMade D.QDevice.makes device result }
         ensures kept { ConverterOrder D.QDevice.ordered D.QDevice.means D.QDevice.timing result }
         ensures begun { Begun (view_of D.QDevice.means result) }
-        ensures fit { Fit (ConverterOrder D.QDevice.ordered D.QDevice.means D.QDevice.timing) (view_of D.QDevice.means) (time_of D.QDevice.means D.QDevice.timing) result }
+        ensures fit { ConverterFit D.QDevice.ordered D.QDevice.means D.QDevice.timing result }
         ensures leaves { tags (D.QDevice.means result.device).leaves ≡ tags (D.QDevice.means device).leaves }
         ensures bound { (time_of D.QDevice.means D.QDevice.timing result).bound ≡ 2 * (D.QDevice.timing device).bound }
     {
-        let mut device = device;
         device.reset();
         Converter {
             device,
@@ -106,9 +102,9 @@ impl<D: QDevice> Converter<D> {
     pub fn ask(&mut self, state: u8) -> Result<(), PRefusal>
         ensures answer { result ≡ ask_answer self.old.phase state }
         ensures exact { self.new ≡ after_ask self.old state }
-        ensures linked { ConverterOrder D.QDevice.ordered D.QDevice.means D.QDevice.timing self.old → Linked (ConverterOrder D.QDevice.ordered D.QDevice.means D.QDevice.timing) (view_of D.QDevice.means) (time_of D.QDevice.means D.QDevice.timing) stop (is_ok result) self.old self.new }
+        ensures linked { Links D.QDevice.ordered D.QDevice.means D.QDevice.timing stop (is_ok result) self.old self.new }
     {
-        match (self.phase, mode_of(state)) {
+        match (self.phase, Mode::from(state)) {
             (PPhase::Stable, Mode::Unused) => Err(PRefusal::StateUnused),
             (PPhase::Stable, _) => {
                 self.phase = PPhase::Request;
@@ -124,7 +120,7 @@ impl<D: QDevice> Converter<D> {
     pub fn drop(&mut self) -> Result<(), PRefusal>
         ensures answer { result ≡ drop_answer self.old.phase }
         ensures exact { self.new ≡ drop_at self.old.phase self.old }
-        ensures linked { ConverterOrder D.QDevice.ordered D.QDevice.means D.QDevice.timing self.old → Linked (ConverterOrder D.QDevice.ordered D.QDevice.means D.QDevice.timing) (view_of D.QDevice.means) (time_of D.QDevice.means D.QDevice.timing) back (is_ok result) self.old self.new }
+        ensures linked { Links D.QDevice.ordered D.QDevice.means D.QDevice.timing back (is_ok result) self.old self.new }
     {
         match self.phase {
             PPhase::Accept => {
@@ -142,10 +138,10 @@ impl<D: QDevice> Converter<D> {
     // Lets one step pass.
     pub fn step(&mut self)
         ensures exact { StepMade D.QDevice.means D.QDevice.makes self.old self.new }
-        ensures linked { ConverterOrder D.QDevice.ordered D.QDevice.means D.QDevice.timing self.old → Linked (ConverterOrder D.QDevice.ordered D.QDevice.means D.QDevice.timing) (view_of D.QDevice.means) (time_of D.QDevice.means D.QDevice.timing) tick true self.old self.new }
+        ensures linked { Links D.QDevice.ordered D.QDevice.means D.QDevice.timing tick true self.old self.new }
     {
         let from = self.phase;
-        let task = task_for(from, mode_of(self.state), mode_of(self.asked));
+        let task = task_for(from, self.state.into(), self.asked.into());
         let noted = self.denier.is_some();
         let before = self.device.phase();
         make_drive(&mut self.device, drive_for(task, noted, before));
