@@ -1,17 +1,18 @@
 // A cell holds one line of a topology: its name, and the device that it is.
 ghost use Rattle.std.specs.Prelude.{◌≡◌, cond, Some, None};
-ghost use Rattle.cells.specs.Bodies.{blank, body_phase, body_denier, driven_body, answered_body, reset_body, to_first, to_second};
+ghost use Rattle.cells.specs.Bodies.{blank, body_end, body_phase, body_denier, driven_body, answered_body, reset_body, to_first, to_second};
 ghost use Rattle.cells.specs.Flat.{is_join, first_of, second_of};
 
-use crate::rules::{denier_driven, driven, phase_driven, restarted, stepped};
+use crate::rules::{driven, end_answered, end_driven, restarted, stepped};
 use channel::device::QDevice;
+use channel::end::QEnd;
 use channel::phase::Phase;
-use joins::rules::{Drive, Kind, decide, first_drive, heard_of, note, second_drive};
+use joins::rules::{Drive, Kind, first_drive, second_drive};
 use leaves::timed::Timed;
 use leaves::work::Work;
 use words::name::Name;
 
-// The device of a line. A join has its two devices' lines, counted from 0, and its own phase and denier.
+// The device of a line. A join has its two devices' lines, counted from 0, and its own end.
 #[derive(Clone, Copy)]
 pub enum Body {
     Blank,
@@ -21,34 +22,38 @@ pub enum Body {
         kind: Kind,
         first: u8,
         second: u8,
-        phase: Phase,
-        denier: Option<u32>,
+        end: QEnd,
     },
 }
 
 impl Body {
+    // The lower end of its channel; a blank line's stands at Run.
+    pub fn end(self) -> QEnd
+        ensures { result ≡ body_end self }
+    {
+        match self {
+            Body::Blank => QEnd {
+                phase: Phase::Run,
+                denier: None,
+            },
+            Body::Timed(leaf) => leaf.end(),
+            Body::Work(leaf) => leaf.end(),
+            Body::Join { end, .. } => end,
+        }
+    }
+
     // Where its channel stands.
     pub fn phase(self) -> Phase
         ensures { result ≡ body_phase self }
     {
-        match self {
-            Body::Blank => Phase::Run,
-            Body::Timed(leaf) => leaf.phase(),
-            Body::Work(leaf) => leaf.phase(),
-            Body::Join { phase, .. } => phase,
-        }
+        self.end().phase
     }
 
     // The tag of the first leaf that denied its latest request, if one did.
     pub fn denier(self) -> Option<u32>
         ensures { result ≡ body_denier self }
     {
-        match self {
-            Body::Blank => None,
-            Body::Timed(leaf) => leaf.denier(),
-            Body::Work(leaf) => leaf.denier(),
-            Body::Join { denier, .. } => denier,
-        }
+        self.end().denier
     }
 
     // The lines of a join's two devices.
@@ -66,18 +71,10 @@ impl Body {
         ensures { result ≡ (to_first self x y, to_second self x y) }
     {
         match self {
-            Body::Join {
-                kind,
-                phase,
-                denier,
-                ..
-            } => {
-                let noted = denier.is_some();
-                (
-                    first_drive(kind, phase, noted, x, y),
-                    second_drive(kind, phase, noted, x, y),
-                )
-            }
+            Body::Join { kind, end, .. } => (
+                first_drive(kind, end, x, y),
+                second_drive(kind, end, x, y),
+            ),
             _ => (Drive::Nothing, Drive::Nothing),
         }
     }
@@ -94,14 +91,12 @@ impl Body {
                 kind,
                 first,
                 second,
-                phase,
-                denier,
+                end,
             } => Body::Join {
                 kind,
                 first,
                 second,
-                phase: phase_driven(drive, phase),
-                denier: denier_driven(drive, phase, denier),
+                end: end_driven(end, drive),
             },
         }
     }
@@ -118,20 +113,13 @@ impl Body {
                 kind,
                 first,
                 second,
-                phase,
-                denier,
-            } => {
-                let heard_first = heard_of(x.phase(), x.denier());
-                let heard_second = heard_of(y.phase(), y.denier());
-                let noted = note(phase, denier, heard_first, heard_second);
-                Body::Join {
-                    kind,
-                    first,
-                    second,
-                    phase: decide(phase, noted.is_some(), x.phase(), y.phase()),
-                    denier: noted,
-                }
-            }
+                end,
+            } => Body::Join {
+                kind,
+                first,
+                second,
+                end: end_answered(end, x.end(), y.end()),
+            },
         }
     }
 
@@ -152,8 +140,7 @@ impl Body {
                 kind,
                 first,
                 second,
-                phase: Phase::Stopped,
-                denier: None,
+                end: QEnd::at_rest(),
             },
         }
     }
