@@ -32,13 +32,13 @@ alike_answered : (b x y : Body) → Alike (answered_body b x y) b
 alike_answered body.Blank x y = record { joins = λ k. refl; twice = refl; blank = refl }
 alike_answered (body.Timed t) x y = record { joins = λ k. refl; twice = refl; blank = refl }
 alike_answered (body.Work t) x y = record { joins = λ k. refl; twice = refl; blank = refl }
-alike_answered (body.Join k a b p d) x y = record { joins = λ k. refl; twice = refl; blank = refl }
+alike_answered (body.Join k a b q) x y = record { joins = λ k. refl; twice = refl; blank = refl }
 
 alike_reset : (b : Body) → Alike (reset_body b) b
 alike_reset body.Blank = record { joins = λ k. refl; twice = refl; blank = refl }
 alike_reset (body.Timed t) = record { joins = λ k. refl; twice = refl; blank = refl }
 alike_reset (body.Work t) = record { joins = λ k. refl; twice = refl; blank = refl }
-alike_reset (body.Join k a b p d) = record { joins = λ k. refl; twice = refl; blank = refl }
+alike_reset (body.Join k a b q) = record { joins = λ k. refl; twice = refl; blank = refl }
 
 alike_at : (b c : Body) → b ≡ c → (d : Body) → Alike c d → Alike b d
 alike_at b c e d a = subst (λ z. Alike z d) (sym e) a
@@ -73,8 +73,8 @@ nest_frame n (suc f) i cs ds w h e =
     by body.Blank below same = refl
     by (body.Timed t) below same = refl
     by (body.Work t) below same = refl
-    by (body.Join k a b p d) below same =
-        rw (same a (below a (joins_first (body.Join k a b p d) refl)), same b (below b (joins_second (body.Join k a b p d) refl)))
+    by (body.Join k a b q) below same =
+        rw (same a (below a (joins_first (body.Join k a b q) refl)), same b (below b (joins_second (body.Join k a b q) refl)))
 
 -- the top line, driven
 pub top_drives : (t : ℕ) (v : Drive) (cs : List Cell) → Wired (suc t) cs
@@ -92,8 +92,8 @@ top_drives t v cs w =
     by body.Blank below e same = let z : ⊥ = both_ways true e refl in elim z [ ]
     by (body.Timed u) below e same = refl
     by (body.Work u) below e same = refl
-    by (body.Join k a b p d) below e same =
-        rw (same a (below a (joins_first (body.Join k a b p d) refl)), same b (below b (joins_second (body.Join k a b p d) refl)))
+    by (body.Join k a b q) below e same =
+        rw (same a (below a (joins_first (body.Join k a b q) refl)), same b (below b (joins_second (body.Join k a b q) refl)))
 
 pub put_wired : (n i : ℕ) (cs : List Cell) (b : Body) → i < n → Alike b (body_at cs i) → Wired n cs → Wired n (put cs i b)
 put_wired n i cs b h a w =
@@ -149,15 +149,15 @@ nest_resets n (suc f) i cs ds w r h l =
     by body.Blank below e same = let z : ⊥ = both_ways true e refl in elim z [ ]
     by (body.Timed t) below e same = refl
     by (body.Work t) below e same = refl
-    by (body.Join k a b p d) below e same =
-        rw (same a (below a (joins_first (body.Join k a b p d) refl)), same b (below b (joins_second (body.Join k a b p d) refl)))
+    by (body.Join k a b q) below e same =
+        rw (same a (below a (joins_first (body.Join k a b q) refl)), same b (below b (joins_second (body.Join k a b q) refl)))
 
 -- two lines that share none have none in common, and back
 pub apart_lines : (b c : Body) (k : ℕ) → shares b c ≡ false → joins_line k b ≡ true → joins_line k c ≡ true → ⊥
 apart_lines body.Blank c k s e f = both_ways false refl e
 apart_lines (body.Timed t) c k s e f = both_ways false refl e
 apart_lines (body.Work t) c k s e f = both_ways false refl e
-apart_lines (body.Join z a b p d) c k s e f = by (or_cases (eqb a k) (eqb b k) e)
+apart_lines (body.Join z a b q) c k s e f = by (or_cases (eqb a k) (eqb b k) e)
   where
     by : (eqb a k ≡ true) ⊎ (eqb b k ≡ true) → ⊥
     by (inl i) = both_ways (joins_line a c || joins_line b c) s (or_left _ _ (subst (λ j. joins_line j c ≡ true) (sym (eqb-true a k i)) f))
@@ -167,10 +167,10 @@ pub lines_apart : (b c : Body) → ((k : ℕ) → joins_line k b ≡ true → jo
 lines_apart body.Blank c n = refl
 lines_apart (body.Timed t) c n = refl
 lines_apart (body.Work t) c n = refl
-lines_apart (body.Join z a b p d) c n =
+lines_apart (body.Join z a b q) c n =
     or_from (joins_line a c) (joins_line b c)
-    (not_true _ (n a (joins_first (body.Join z a b p d) refl)))
-    (not_true _ (n b (joins_second (body.Join z a b p d) refl)))
+    (not_true _ (n a (joins_first (body.Join z a b q) refl)))
+    (not_true _ (n b (joins_second (body.Join z a b q) refl)))
 
 pub none_share_at : (cs : List Cell) (b : Body) (n i : ℕ) → none_share cs b n ≡ true → i < n → shares (body_at cs i) b ≡ false
 unfolding none_share

@@ -28,56 +28,56 @@ pub joins_driven : (k : ℕ) (w : Drive) (b : Body) → joins_line k (driven_bod
 joins_driven k w body.Blank = refl
 joins_driven k w (body.Timed t) = refl
 joins_driven k w (body.Work v) = refl
-joins_driven k w (body.Join z a b p d) = refl
+joins_driven k w (body.Join z a b q) = refl
 
 pub twice_driven : (w : Drive) (b : Body) → joins_twice (driven_body w b) ≡ joins_twice b
 twice_driven w body.Blank = refl
 twice_driven w (body.Timed t) = refl
 twice_driven w (body.Work v) = refl
-twice_driven w (body.Join z a b p d) = refl
+twice_driven w (body.Join z a b q) = refl
 
 pub blank_driven : (w : Drive) (b : Body) → is_blank (driven_body w b) ≡ is_blank b
 blank_driven w body.Blank = refl
 blank_driven w (body.Timed t) = refl
 blank_driven w (body.Work v) = refl
-blank_driven w (body.Join z a b p d) = refl
+blank_driven w (body.Join z a b q) = refl
 
 pub join_driven : (w : Drive) (b : Body) → is_join (driven_body w b) ≡ is_join b
 join_driven w body.Blank = refl
 join_driven w (body.Timed t) = refl
 join_driven w (body.Work v) = refl
-join_driven w (body.Join z a b p d) = refl
+join_driven w (body.Join z a b q) = refl
 
 pub first_driven : (w : Drive) (b : Body) → first_of (driven_body w b) ≡ first_of b
 first_driven w body.Blank = refl
 first_driven w (body.Timed t) = refl
 first_driven w (body.Work v) = refl
-first_driven w (body.Join z a b p d) = refl
+first_driven w (body.Join z a b q) = refl
 
 pub second_driven : (w : Drive) (b : Body) → second_of (driven_body w b) ≡ second_of b
 second_driven w body.Blank = refl
 second_driven w (body.Timed t) = refl
 second_driven w (body.Work v) = refl
-second_driven w (body.Join z a b p d) = refl
+second_driven w (body.Join z a b q) = refl
 
 pub none_driven : (b : Body) → driven_body Nothing b ≡ b
 none_driven body.Blank = refl
 none_driven (body.Timed t) = refl
 none_driven (body.Work v) = refl
-none_driven (body.Join z a b p d) = refl
+none_driven (body.Join z a b q) = refl
 
 -- a join joins its first and its second
 pub joins_first : (b : Body) → is_join b ≡ true → joins_line (first_of b) b ≡ true
 joins_first body.Blank e = e
 joins_first (body.Timed t) e = e
 joins_first (body.Work v) e = e
-joins_first (body.Join z a b p d) e = or_left (eqb a a) (eqb b a) (eq-eqb a a refl)
+joins_first (body.Join z a b q) e = or_left (eqb a a) (eqb b a) (eq-eqb a a refl)
 
 pub joins_second : (b : Body) → is_join b ≡ true → joins_line (second_of b) b ≡ true
 joins_second body.Blank e = e
 joins_second (body.Timed t) e = e
 joins_second (body.Work v) e = e
-joins_second (body.Join z a b p d) e = or_right (eqb a b) (eqb b b) (eq-eqb b b refl)
+joins_second (body.Join z a b q) e = or_right (eqb a b) (eqb b b) (eq-eqb b b refl)
 
 -- and no other line
 pub joins_none : (b : Body) (i : ℕ) → joins_line i b ≡ false → is_join b ≡ true → (i ≡ first_of b → ⊥) × (i ≡ second_of b → ⊥)
@@ -90,13 +90,13 @@ pub differ : (b : Body) → is_join b ≡ true → joins_twice b ≡ false → s
 differ body.Blank e t z = both_ways false refl e
 differ (body.Timed u) e t z = both_ways false refl e
 differ (body.Work v) e t z = both_ways false refl e
-differ (body.Join k a b p d) e t z = both_ways (eqb a b) t (eq-eqb a b (sym z))
+differ (body.Join k a b q) e t z = both_ways (eqb a b) t (eq-eqb a b (sym z))
 
 leaf_joins_none : (b : Body) (i : ℕ) → is_join b ≡ false → joins_line i b ≡ false
 leaf_joins_none body.Blank i e = refl
 leaf_joins_none (body.Timed t) i e = refl
 leaf_joins_none (body.Work v) i e = refl
-leaf_joins_none (body.Join k a b p d) i e = let z : ⊥ = both_ways true e refl in elim z [ ]
+leaf_joins_none (body.Join k a b q) i e = let z : ⊥ = both_ways true e refl in elim z [ ]
 
 -- what the drives of line n leave
 pub record LineDriven (n : ℕ) (cs ds : List Cell) : Type 0 where
@@ -309,7 +309,7 @@ answered_alike : (b x y u v : Body) → (is_join b ≡ true → x ≡ u) → (is
 answered_alike body.Blank x y u v f s = refl
 answered_alike (body.Timed t) x y u v f s = refl
 answered_alike (body.Work w) x y u v f s = refl
-answered_alike (body.Join k a b p d) x y u v f s = rw (f refl, s refl)
+answered_alike (body.Join k a b q) x y u v f s = rw (f refl, s refl)
 
 -- what the answers of the lines before n leave
 pub record Answered (n : ℕ) (ms ds : List Cell) : Type 0 where

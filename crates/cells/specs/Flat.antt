@@ -29,19 +29,19 @@ abbrev pub first_of : Body → ℕ
 first_of body.Blank = 0
 first_of (body.Timed t) = 0
 first_of (body.Work w) = 0
-first_of (body.Join k a b p d) = a
+first_of (body.Join k a b q) = a
 
 abbrev pub second_of : Body → ℕ
 second_of body.Blank = 0
 second_of (body.Timed t) = 0
 second_of (body.Work w) = 0
-second_of (body.Join k a b p d) = b
+second_of (body.Join k a b q) = b
 
 abbrev pub is_join : Body → Bool
 is_join body.Blank = false
 is_join (body.Timed t) = false
 is_join (body.Work w) = false
-is_join (body.Join k a b p d) = true
+is_join (body.Join k a b q) = true
 
 -- a join drives its two devices, by their phases before
 unfoldable pub drive_pair : List Cell → Body → ℕ → ℕ → List Cell
@@ -83,7 +83,7 @@ abbrev pub nest_of : Body → (ℕ → Nest) → Nest
 nest_of body.Blank f = empty Run
 nest_of (body.Timed t) f = timed_leaf t
 nest_of (body.Work w) f = work_leaf w
-nest_of (body.Join k a b p d) f = join k p d (f a) (f b)
+nest_of (body.Join k a b q) f = join k q (f a) (f b)
 
 -- the nested tree of line i, at most n lines deep
 unfoldable pub nest : ℕ → List Cell → ℕ → Nest
@@ -94,7 +94,7 @@ abbrev pub is_blank : Body → Bool
 is_blank body.Blank = true
 is_blank (body.Timed t) = false
 is_blank (body.Work w) = false
-is_blank (body.Join k a b p d) = false
+is_blank (body.Join k a b q) = false
 
 -- lines join earlier lines, and no line is joined twice
 pub record Wired (n : ℕ) (cs : List Cell) : Type 0 where

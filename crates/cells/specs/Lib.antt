@@ -1,3 +1,5 @@
 pub mod Bodies
 pub mod Nests
 pub mod Flat
+pub mod Certain
+pub mod Ordered

@@ -95,23 +95,26 @@ module _ (p : Phase) (d : Option ℕ) (a b : Means) (h : Together p d a b) where
       by Denied = record { to = refl; keeps = refl; same_tags = refl }
       by Continue = refl
 
--- what became of one device in a step of its join
+-- what became of one device in a step of its join; it is in order before, between and after
 pub record Went {S : Type 0} (m : S → Means) (t : S → Timing) (w : Drive) (x y : S) : Type 0 where
   pub mid : S
+  pub before : InOrder m t x
   pub drove : Drove w (m x) (m mid)
   pub undriven : w ≡ Nothing → mid ≡ x
   pub mid_bound : (t mid).bound ≡ (t x).bound
+  pub between : InOrder m t mid
   pub stepped : Stepped (m mid) (m y)
   pub ticked : Ticked (m mid).phase (m y).phase (t mid) (t y)
+  pub after : InOrder m t y
 
-module _ {S : Type 0} (m : S → Means) (t : S → Timing) (l : (z : S) → InOrder m t z) (w : Drive) (x y : S) (h : Went m t w x y) where
+module _ {S : Type 0} (m : S → Means) (t : S → Timing) (w : Drive) (x y : S) (h : Went m t w x y) where
   pub went_turned : Turned w (m x) (m h.mid) (m y)
   went_turned = record {
-    sound = (l x).sound;
+    sound = h.before.sound;
     drove = h.drove;
-    sound_mid = (l h.mid).sound;
+    sound_mid = h.between.sound;
     stepped = h.stepped;
-    sound_after = (l y).sound;
+    sound_after = h.after.sound;
   }
 
   pub went_paced : Paced w (m x).phase (m y).phase (t x) (t h.mid) (t y)
@@ -119,12 +122,12 @@ module _ {S : Type 0} (m : S → Means) (t : S → Timing) (l : (z : S) → InOr
       let p = turned_phase w (m x) (m h.mid) (m y) went_turned in
       record {
         to = p.1;
-        timely = (l x).timely;
+        timely = h.before.timely;
         undriven = λ e. ap t (h.undriven e);
         mid_bound = h.mid_bound;
-        timely_mid = subst (λ q. Timely q (t h.mid)) p.0 (l h.mid).timely;
+        timely_mid = subst (λ q. Timely q (t h.mid)) p.0 h.between.timely;
         ticked = subst (λ q. Ticked q (m y).phase (t h.mid) (t y)) p.0 h.ticked;
-        timely_after = (l y).timely;
+        timely_after = h.after.timely;
       }
 
 -- a noted denier stays
@@ -154,22 +157,15 @@ pub record StepKept (k : Kind) (p : Phase) (d : Option ℕ) (a b x y : Means) (t
   pub sequence : InSequence k x y
 
 -- both devices driven as the join's rule says, then stepped
-module _ {A B : Type 0} (k : Kind) (ma : A → Means) (ta : A → Timing) (mb : B → Means) (tb : B → Timing)
-    (la : (z : A) → InOrder ma ta z) (lb : (z : B) → InOrder mb tb z) (p : Phase) (d : Option ℕ) (i m x : A) (j n y : B) (w v : Drive) where
-  pub steps : Together p d (ma i) (mb j) → InSequence k (ma i) (mb j)
-      → w ≡ first_drive k p (is_some d) (ma i).phase (mb j).phase → v ≡ second_drive k p (is_some d) (ma i).phase (mb j).phase
-      → Drove w (ma i) (ma m) → (w ≡ Nothing → m ≡ i) → (ta m).bound ≡ (ta i).bound
-      → Stepped (ma m) (ma x) → Ticked (ma m).phase (ma x).phase (ta m) (ta x)
-      → Drove v (mb j) (mb n) → (v ≡ Nothing → n ≡ j) → (tb n).bound ≡ (tb j).bound
-      → Stepped (mb n) (mb y) → Ticked (mb n).phase (mb y).phase (tb n) (tb y)
+module _ {A B : Type 0} (k : Kind) (ma : A → Means) (ta : A → Timing) (mb : B → Means) (tb : B → Timing) (p : Phase) (d : Option ℕ)
+    (i x : A) (j y : B) where
+  pub both_went : Together p d (ma i) (mb j) → InSequence k (ma i) (mb j)
+      → Went ma ta (first_drive k p (is_some d) (ma i).phase (mb j).phase) i x
+      → Went mb tb (second_drive k p (is_some d) (ma i).phase (mb j).phase) j y
       → StepKept k p d (ma i) (mb j) (ma x) (mb y) (ta i) (tb j) (ta x) (tb y)
-  steps h sq ew ev fd fi fb fs ft gd gi gb gs gt =
-      let f : Went ma ta (first_drive k p (is_some d) (ma i).phase (mb j).phase) i x =
-      subst (λ u. Went ma ta u i x) ew (record { mid = m; drove = fd; undriven = fi; mid_bound = fb; stepped = fs; ticked = ft }) in
-      let s : Went mb tb (second_drive k p (is_some d) (ma i).phase (mb j).phase) j y =
-      subst (λ u. Went mb tb u j y) ev (record { mid = n; drove = gd; undriven = gi; mid_bound = gb; stepped = gs; ticked = gt }) in
-      let a = went_turned ma ta la _ i x f in
-      let b = went_turned mb tb lb _ j y s in
+  both_went h sq f s =
+      let a = went_turned ma ta _ i x f in
+      let b = went_turned mb tb _ j y s in
       let pair : Pair p d (ma i) (ma x) (mb j) (mb y) = record {
         to_first = _;
         to_second = _;
@@ -185,10 +181,45 @@ module _ {A B : Type 0} (k : Kind) (ma : A → Means) (ta : A → Timing) (mb : 
         order = join_stepped p d (ma i) (ma x) (mb j) (mb y) pair;
         pace = join_ticked k (ma i).phase (ma x).phase (mb j).phase (mb y).phase _ _ _ _ _ _ p d (denier_after p d (ma x) (mb y))
             (phases_at p d (ma i) (mb j) h) (sequence_at k (ma i) (mb j) sq) (stays p d (ma x) (mb y))
-            (went_paced ma ta la _ i x f) (went_paced mb tb lb _ j y s);
+            (went_paced ma ta _ i x f) (went_paced mb tb _ j y s);
         together = keeps_together p d (ma i) (ma x) (mb j) (mb y) pair;
         sequence = keeps_sequence k p (is_some d) (ma i) _ (ma x) (mb j) _ (mb y) sq a b;
       }
+
+-- the same by what the calls say, where every device is in order
+module _ {A B : Type 0} (k : Kind) (ma : A → Means) (ta : A → Timing) (mb : B → Means) (tb : B → Timing)
+    (la : (z : A) → InOrder ma ta z) (lb : (z : B) → InOrder mb tb z) (p : Phase) (d : Option ℕ) (i m x : A) (j n y : B) (w v : Drive) where
+  pub steps : Together p d (ma i) (mb j) → InSequence k (ma i) (mb j)
+      → w ≡ first_drive k p (is_some d) (ma i).phase (mb j).phase → v ≡ second_drive k p (is_some d) (ma i).phase (mb j).phase
+      → Drove w (ma i) (ma m) → (w ≡ Nothing → m ≡ i) → (ta m).bound ≡ (ta i).bound
+      → Stepped (ma m) (ma x) → Ticked (ma m).phase (ma x).phase (ta m) (ta x)
+      → Drove v (mb j) (mb n) → (v ≡ Nothing → n ≡ j) → (tb n).bound ≡ (tb j).bound
+      → Stepped (mb n) (mb y) → Ticked (mb n).phase (mb y).phase (tb n) (tb y)
+      → StepKept k p d (ma i) (mb j) (ma x) (mb y) (ta i) (tb j) (ta x) (tb y)
+  steps h sq ew ev fd fi fb fs ft gd gi gb gs gt =
+      both_went k ma ta mb tb p d i x j y h sq
+      (subst (λ u. Went ma ta u i x) ew (record {
+        mid = m;
+        before = la i;
+        drove = fd;
+        undriven = fi;
+        mid_bound = fb;
+        between = la m;
+        stepped = fs;
+        ticked = ft;
+        after = la x;
+      }))
+      (subst (λ u. Went mb tb u j y) ev (record {
+        mid = n;
+        before = lb j;
+        drove = gd;
+        undriven = gi;
+        mid_bound = gb;
+        between = lb n;
+        stepped = gs;
+        ticked = gt;
+        after = lb y;
+      }))
 
 -- a join over two devices just reset
 pub resets : (p : Phase) (d : Option ℕ) (a x b y : Means) → Reset a x → Reset b y → Reset (joined p d a b) (joined Stopped None x y)
