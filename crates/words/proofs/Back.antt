@@ -71,7 +71,6 @@ unlines_ended (l ∷ m ∷ ls) h = behind l (10 ∷ unlines (m ∷ ls)) (omega a
 -- bytes of names and numbers are neither spaces nor line ends
 
 pub lacks_names : (b : ℕ) (w : List ℕ) → b < 48 → letters_digits w ≡ true → Lacks b w
-unfolding letters_digits
 lacks_names b [] h e = tt
 lacks_names b (c ∷ cs) h e =
     let p = and_parts (letter c || digit c) (letters_digits cs) e in

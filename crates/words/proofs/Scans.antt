@@ -1,10 +1,9 @@
 -- What one turn of a scan over bytes keeps. Assumes nothing.
-use Rattle.std.proofs.Common.{◌≡◌, ℕ, suc, ◌+◌, ◌-◌, ◌*◌, ◌<◌, ◌≤◌, true, false, ◌&&◌, ◌||◌, List, [], ◌∷◌, length, get_or, drop, ap, ◌∙◌, arith}
+use Rattle.std.proofs.Common.{◌≡◌, ℕ, suc, ◌+◌, ◌-◌, ◌*◌, ◌<◌, ◌≤◌, true, false, ◌&&◌, List, [], ◌∷◌, length, get_or, drop, ap, ◌∙◌, arith}
 use Rattle.std.proofs.lemmas.List.{at_drop_more, at_drop_all}
 use Rattle.std.proofs.lemmas.Bool.{cond-true, cond-false, eq-eqb, ne_eqb}
 use Rattle.words.specs.Pieces.{place_of, count_of}
 use Rattle.words.specs.Numbers.{digit, digits, value_on}
-use Rattle.words.specs.Names.{letter, letters_digits}
 
 module _ (b : ℕ) (t : List ℕ) (i : ℕ) where
   pub place_here : i < length t → get_or t i 0 ≡ b → place_of b (drop i t) ≡ 0
@@ -32,18 +31,6 @@ module _ (b : ℕ) (t : List ℕ) (i : ℕ) where
   count_none h = at_drop_all (count_of b) t i h
 
 module _ (w : List ℕ) (i : ℕ) where
-  pub names_on : i < length w → (letter (get_or w i 0) || digit (get_or w i 0)) ≡ true → letters_digits (drop i w) ≡ letters_digits (drop (i + 1) w)
-  unfolding letters_digits
-  names_on h e = at_drop_more letters_digits w i 0 h ∙ ap (λ b. b && letters_digits (drop (i + 1) w)) e
-
-  pub names_stop : i < length w → (letter (get_or w i 0) || digit (get_or w i 0)) ≡ false → letters_digits (drop i w) ≡ false
-  unfolding letters_digits
-  names_stop h e = at_drop_more letters_digits w i 0 h ∙ ap (λ b. b && letters_digits (drop (i + 1) w)) e
-
-  pub names_end : length w ≤ i → letters_digits (drop i w) ≡ true
-  unfolding letters_digits
-  names_end h = at_drop_all letters_digits w i h
-
   pub digits_on : i < length w → digit (get_or w i 0) ≡ true → digits (drop i w) ≡ digits (drop (i + 1) w)
   unfolding digits
   digits_on h e = at_drop_more digits w i 0 h ∙ ap (λ b. b && digits (drop (i + 1) w)) e

@@ -7,6 +7,7 @@ use Rattle.std.proofs.lemmas.Fmt.{decimal-digits_value}
 use Rattle.words.specs.Pieces.{pieces, onto, words_of, lines_of, spaced, unlines}
 use Rattle.words.specs.Numbers.{digits, value_on, value, well_led, byte_of, at_least, number_of}
 use Rattle.words.specs.Names.{letter, legal, name_of, text_of}
+use Rattle.words.specs.Shorts.{short_of}
 use Rattle.words.proofs.Cuts.{pieces_count, lines_at}
 
 -- names
@@ -17,10 +18,10 @@ legal_short (c ∷ cs) e = leb-true _ _ (and_parts _ _ (and_parts (letter c) _ e
 
 -- a name that is stored is the word
 pub text_name : (w : List ℕ) → length w ≤ 12 → text_of (name_of w) ≡ w
-unfolding name_of
+unfolding short_of
 text_name w h =
     let m : min (length w) 12 ≡ length w = omega arith in
-    (λ i. take (m i) (take_all 12 w h i ++ replicate (12 - length w) 0)) ∙ take_at w (replicate (12 - length w) 0) (length w) refl
+    (λ i. take (m i) (take_all 12 w h i ++ replicate (12 - m i) 0)) ∙ take_at w (replicate (12 - length w) 0) (length w) refl
 
 -- numbers
 
