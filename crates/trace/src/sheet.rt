@@ -118,7 +118,10 @@ mod tests {
         sheet.put_edge(b"cpu", Phase::Denied);
         sheet.put_denied(b"a line that is too long", b"cpu");
         assert_eq!(rt; sheet.place(), 21);
-        assert_eq!(rt; out.as_slice(), b".17 reset\n17 cpu 011\n.........".as_slice());
+        assert_eq!(rt;
+            out.as_slice(),
+            b".17 reset\n17 cpu 011\n.........".as_slice()
+        );
         Ok(())
     }
 }

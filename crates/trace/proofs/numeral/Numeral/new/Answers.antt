@@ -1,9 +1,15 @@
-use Rattle.std.proofs.Common.{◌≤◌, length, decimal, arith}
-use Rattle.std.proofs.lemmas.Fmt.{length-decimal-le}
+use Rattle.std.proofs.Common.{◌≡◌, ℕ, ◌-◌, ◌≤◌, min, List, ◌++◌, length, take, replicate, refl, ap, ◌∙◌, arith}
+use Rattle.std.proofs.lemmas.List.{take_all, take_at}
+use Rattle.words.specs.Shorts.{short_of, short_text}
 use Rattle.trace.proofs.numeral.Numeral.new.Goals as goal
 
-pub digits-len-requires : goal.digits-len-requires
-digits-len-requires c = let h : length (decimal c.args.n) ≤ 10 = length-decimal-le 10 c.args.n (omega arith) (omega arith) (omega arith) in omega arith
+text_short : (w : List ℕ) → length w ≤ 10 → short_text (short_of 10 w) ≡ w
+unfolding short_of
+text_short w h =
+    let m : min (length w) 10 ≡ length w = omega arith in
+    (λ i. take (m i) (take_all 10 w h i ++ replicate (10 - m i) 0)) ∙ take_at w (replicate (10 - length w) 0) (length w) refl
 
-pub overflow_cast-result : goal.overflow_cast-result
-overflow_cast-result c = let h : length (decimal c.args.n) ≤ 10 = length-decimal-le 10 c.args.n (omega arith) (omega arith) (omega arith) in omega arith
+pub returns : goal.returns
+returns c =
+    ap short_text c.new.ensures
+    ∙ (text_short c.as_bytes-text.result.now (omega arith) ∙ (c.as_bytes-text.ensures.value ∙ c.format.ensures.text))

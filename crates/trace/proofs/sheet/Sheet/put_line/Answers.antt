@@ -1,10 +1,5 @@
-use Rattle.std.proofs.Common.{◌≡◌, ◌+◌, ◌<◌, ◌≤◌, ltb, ℕ, List, [], ◌∷◌, ◌++◌, length, get_or, take, sym, refl, subst, ap, ◌∙◌, arith, length-append}
-use Rattle.std.specs.Borrow.{Bor}
-use Rattle.std.specs.List.{flat_map}
-use Rattle.std.proofs.lemmas.List.{take_all}
-use Rattle.std.proofs.lemmas.List.Folds.{length-flat_map-take}
+use Rattle.std.proofs.Common.{[], ◌∷◌, ◌++◌, length, sym, subst, ap, ◌∙◌, arith, length-append}
 use Rattle.std.proofs.lemmas.Bool.{ltb-true, ltb-false}
-use Rattle.trace.specs.Sheets.{sheet, line_onto}
 use Rattle.trace.proofs.Lays.{Wrote, part_more, part_room, same_then, parts_flat, parts_taken, wrote_more, wrote_long, wrote_line, no_room}
 use Rattle.trace.proofs.sheet.Sheet.put_line.Goals as goal
 

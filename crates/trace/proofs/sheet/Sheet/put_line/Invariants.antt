@@ -1,5 +1,4 @@
-use Rattle.std.proofs.Common.{◌≡◌, ◌+◌, ◌<◌, length, take, drop}
-use Rattle.trace.specs.Sheets.{laid}
+use Rattle.std.proofs.Common.{take}
 use Rattle.std.specs.List.{flat_map}
 use Rattle.trace.specs.Written.{IsSame}
 use Rattle.trace.proofs.Lays.{Wrote}
