@@ -4,7 +4,7 @@ use Rattle.std.specs.List.{AllByRecursion as All}
 use Rattle.std.proofs.lemmas.Bool.{and_parts, and_from, or_cases, leb-true, le-leb, le-ltb, ne_eqb, cond-true, cond-false, cases_eq}
 use Rattle.std.proofs.lemmas.Fmt.{decimal_digit, decimal_nonempty, first_decimal, digits_decimal, digits_value-decimal}
 use Rattle.words.specs.Pieces.{pieces, onto, words_of, lines_of, spaced, unlines}
-use Rattle.words.specs.Numbers.{digit, digits, value, well_led, byte_of, at_least, number_of}
+use Rattle.words.specs.Numbers.{digit, digits, value, well_led, within, at_least, number_of}
 use Rattle.words.specs.Names.{letter, letters_digits, legal}
 use Rattle.words.proofs.Written.{own}
 
@@ -77,7 +77,6 @@ lacks_names b (c ∷ cs) h e =
     ((λ q. ⊎_elim (λ l. let g = leb-true 97 c (and_parts (leb 97 c) (leb c 122) l).0 in omega arith) (λ d. let g = leb-true 48 c (and_parts (leb 48 c) (leb c 57) d).0 in omega arith) (or_cases (letter c) (digit c) p.0)), lacks_names b cs h p.1)
 
 pub lacks_digits : (b : ℕ) (w : List ℕ) → b < 48 → digits w ≡ true → Lacks b w
-unfolding digits
 lacks_digits b [] h e = tt
 lacks_digits b (c ∷ cs) h e =
     let p = and_parts (digit c) (digits cs) e in
@@ -101,7 +100,7 @@ led_from (c ∷ cs) h f = by (eqb c 48) refl
 -- a number is read back from its decimal
 pub number_back : (low v : ℕ) → low ≤ v → v ≤ 255 → number_of low (decimal v) ≡ Some v
 number_back low v ge le =
-    cond-true (well_led (decimal v)) _ _ led ∙ ap (at_least low) byte ∙ cond-false (ltb v low) _ _ (le-ltb v low ge)
+    ap (at_least low) (cond-true (well_led (decimal v)) _ _ led ∙ byte) ∙ cond-false (ltb v low) _ _ (le-ltb v low ge)
   where
     small : v < 2 ^ 64
     small = omega arith
@@ -112,5 +111,5 @@ number_back low v ge le =
     same : value (decimal v) ≡ v
     same = digits_value-decimal own v small
 
-    byte : byte_of (decimal v) ≡ Some v
+    byte : within 255 (decimal v) ≡ Some v
     byte = cond-true (digits (decimal v) && leb (value (decimal v)) 255) _ _ (and_from _ _ (digits_decimal own v small) (le-leb _ _ (omega (arith, same)))) ∙ ap Some same

@@ -1,4 +1,5 @@
-pub mod Scans
-pub mod Cuts
-pub mod Written
 pub mod Back
+pub mod Cuts
+pub mod Decimals
+pub mod Scans
+pub mod Written

@@ -5,7 +5,7 @@ use Rattle.std.proofs.lemmas.Bool.{and_parts, leb-true, ltb-false, eqb-true, eqb
 use Rattle.std.proofs.lemmas.Str.Parse.{IsNumeralModel, numerals_by_fold}
 use Rattle.std.proofs.lemmas.Fmt.{decimal-digits_value}
 use Rattle.words.specs.Pieces.{pieces, onto, words_of, lines_of, spaced, unlines}
-use Rattle.words.specs.Numbers.{digits, value_on, value, well_led, byte_of, at_least, number_of}
+use Rattle.words.specs.Numbers.{digits, value_on, value, well_led, within, decimal_of, at_least, number_of}
 use Rattle.words.specs.Names.{letter, legal, name_of, text_of}
 use Rattle.words.specs.Shorts.{short_of}
 use Rattle.words.proofs.Cuts.{pieces_count, lines_at}
@@ -26,7 +26,7 @@ text_name w h =
 -- numbers
 
 pub own : IsNumeralModel (λ ds. digits ds ≡ true) (value_on 0)
-unfolding digits value_on
+unfolding value_on
 own = numerals_by_fold _ (search rules) value_on (search rules)
 
 none≢some : {A : Type 0} {a : A} → ◌≡◌ {A = Option A} None (Some a) → ⊥
@@ -47,30 +47,32 @@ led (c ∷ cs) e = (omega arith, λ p. by (eqb c 48) (eqb-false c 48) (eqb (leng
     by true f false g p q = let z : ◌≡◌ {A = ℕ} 0 1 = cc in absurd (omega arith)
     by false f b g p q = absurd (f refl q)
 
-byte_says : (w : List ℕ) (v : ℕ) → byte_of w ≡ Some v → (digits w ≡ true) × (value w ≡ v) × (v ≤ 255)
-byte_says w v e = by (digits w) refl (leb (value w) 255) refl e
+within_says : (most : ℕ) (w : List ℕ) (v : ℕ) → within most w ≡ Some v → (digits w ≡ true) × (value w ≡ v) × (v ≤ most)
+within_says most w v e = by (digits w) refl (leb (value w) most) refl e
   where
-    by : (a : Bool) → digits w ≡ a → (b : Bool) → leb (value w) 255 ≡ b → cond (a && b) (Some (value w)) None ≡ Some v → (digits w ≡ true) × (value w ≡ v) × (v ≤ 255)
+    by : (a : Bool) → digits w ≡ a → (b : Bool) → leb (value w) most ≡ b → cond (a && b) (Some (value w)) None ≡ Some v → (digits w ≡ true) × (value w ≡ v) × (v ≤ most)
     by true p true q h = let s : value w ≡ v = cc in (p, s, omega (arith, leb-true _ _ q))
     by true p false q h = absurd (none≢some h)
     by false p b q h = absurd (none≢some h)
 
-pub number_says : (low : ℕ) (w : List ℕ) (v : ℕ) → number_of low w ≡ Some v → Writes low w v
-number_says low w v e = by (well_led w) refl e
+at_least_says : (low : ℕ) (o : Option ℕ) (v : ℕ) → at_least low o ≡ Some v → (o ≡ Some v) × (low ≤ v)
+at_least_says low None v h = absurd (none≢some h)
+at_least_says low (Some x) v h = by (ltb x low) refl h
   where
-    at : (o : Option ℕ) → byte_of w ≡ o → at_least low o ≡ Some v → (byte_of w ≡ Some v) × (low ≤ v)
-    at None p h = absurd (none≢some h)
-    at (Some x) p h = least (ltb x low) refl h
-      where
-        least : (t : Bool) → ltb x low ≡ t → cond t None (Some x) ≡ Some v → (byte_of w ≡ Some v) × (low ≤ v)
-        least true q k = absurd (none≢some k)
-        least false q k = let s : x ≡ v = cc in (p ∙ ap Some s, omega (arith, ltb-false _ _ q))
+    by : (t : Bool) → ltb x low ≡ t → cond t None (Some x) ≡ Some v → (◌≡◌ {A = Option ℕ} (Some x) (Some v)) × (low ≤ v)
+    by true q k = absurd (none≢some k)
+    by false q k = let s : x ≡ v = cc in (ap Some s, omega (arith, ltb-false _ _ q))
 
-    by : (t : Bool) → well_led w ≡ t → cond t (at_least low (byte_of w)) None ≡ Some v → Writes low w v
+pub number_says : (low : ℕ) (w : List ℕ) (v : ℕ) → number_of low w ≡ Some v → Writes low w v
+number_says low w v e = by (well_led w) refl f.0
+  where
+    f : (decimal_of 255 w ≡ Some v) × (low ≤ v)
+    f = at_least_says low (decimal_of 255 w) v e
+
+    by : (t : Bool) → well_led w ≡ t → cond t (within 255 w) None ≡ Some v → Writes low w v
     by false p h = absurd (none≢some h)
     by true p h =
-        let f = at (byte_of w) refl h in
-        let g = byte_says w v f.0 in
+        let g = within_says 255 w v h in
         let l = led w p in
         let s = g.1 in
         record { least = f.1; most = g.2; back = ap decimal (sym s) ∙ decimal-digits_value own w g.0 l.0 l.1 (omega (arith, g.2)) }
