@@ -1,3 +1,4 @@
+pub mod Signals
 pub mod Phases
 pub mod PPhases
 pub mod Means

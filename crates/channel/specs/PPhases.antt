@@ -1,6 +1,6 @@
 -- The phases of a P-Channel: numbers, levels, and the changes that the channel allows.
-use Rattle.std.specs.Prelude.{◌≡◌, ℕ, ◌+◌, Bool, true, false, ◌||◌, ◌==◌}
-use Rattle.channel.specs.Phases.{turns}
+use Rattle.std.specs.Prelude.{ℕ, Bool, true, false, ◌||◌, ◌==◌}
+use Rattle.channel.specs.Signals.{turned, TurnsOne}
 use Rattle.channel.specs.declared.pphase.PPhase.{PPhase}
 use Rattle.channel.specs.declared.pphase.PPhase.TheVariants.{Stable, Request, Accept, Complete, Denied, Continue}
 
@@ -35,9 +35,8 @@ p_allowed Continue q = is Stable q
 
 -- how many of the three signals differ between two phases
 abbrev pub p_signals : PPhase → PPhase → ℕ
-p_signals p q =
-    turns (p_levels p).0 (p_levels q).0 + turns (p_levels p).1 (p_levels q).1 + turns (p_levels p).2 (p_levels q).2
+p_signals p q = turned (p_levels p) (p_levels q)
 
 -- an allowed change turns just one signal
 abbrev pub PSingle : PPhase → PPhase → Type 0
-PSingle p q = p_allowed p q ≡ true → p_signals p q ≡ 1
+PSingle = TurnsOne p_levels p_allowed

@@ -1,5 +1,6 @@
 -- The phases of a Q-Channel: numbers, levels, and the changes that the channel allows.
-use Rattle.std.specs.Prelude.{◌≡◌, ℕ, ◌+◌, Bool, true, false, ◌||◌, ◌==◌}
+use Rattle.std.specs.Prelude.{ℕ, Bool, true, false, ◌||◌, ◌==◌}
+use Rattle.channel.specs.Signals.{turned, TurnsOne}
 use Rattle.channel.specs.declared.phase.Phase.{Phase}
 use Rattle.channel.specs.declared.phase.Phase.TheVariants.{Run, Request, Stopped, Exit, Denied, Continue}
 
@@ -32,19 +33,10 @@ allowed Exit q = is Run q
 allowed Denied q = is Continue q
 allowed Continue q = is Run q
 
--- 1 where a signal's two levels differ
-abbrev pub turns : Bool → Bool → ℕ
-turns true true = 0
-turns true false = 1
-turns false true = 1
-turns false false = 0
-
 -- how many of the three signals differ between two phases
 abbrev pub signals : Phase → Phase → ℕ
-signals p q =
-    turns (levels_of p).0 (levels_of q).0 + turns (levels_of p).1 (levels_of q).1
-    + turns (levels_of p).2 (levels_of q).2
+signals p q = turned (levels_of p) (levels_of q)
 
 -- an allowed change turns just one signal
 abbrev pub Single : Phase → Phase → Type 0
-Single p q = allowed p q ≡ true → signals p q ≡ 1
+Single = TurnsOne levels_of allowed

@@ -9,24 +9,23 @@ ghost use Rattle.channel.specs.declared.device.Call.{Call};
 ghost use Rattle.channel.specs.declared.device.Call.TheVariants.{Lower, Raise, Step, Restart};
 
 use crate::phase::Phase;
+use crate::signals::Signals;
 
 // Why a device refuses a call. A refused call changes nothing.
 #[derive(Clone, Copy, PartialEq, Eq, Debug)]
 pub enum Refusal {
     // lower elsewhere than at Run
-    LowerNotAtRun,
+    LowerNotAtRun = 20,
     // raise elsewhere than at Stopped or Denied
-    RaiseNotHeld,
+    RaiseNotHeld = 21,
 }
 
-impl Refusal {
-    pub fn number(self) -> u8
-        ensures { result ≡ refusal_number self }
-    {
-        match self {
-            Refusal::LowerNotAtRun => 20,
-            Refusal::RaiseNotHeld => 21,
-        }
+// A refusal's number.
+impl From<Refusal> for u8 {
+    ghost from_gives = { λ why n. n ≡ refusal_number why };
+
+    fn from(why: Refusal) -> u8 {
+        why as u8
     }
 }
 
@@ -62,7 +61,10 @@ pub trait QDevice {
 
     // QREQn, QACCEPTn, QDENY.
     fn levels(&self) -> (bool, bool, bool)
-        ensures { result ≡ levels_of (means self.now).phase };
+        ensures { result ≡ levels_of (means self.now).phase }
+    {
+        self.phase().levels()
+    }
 
     // Asks for a stop.
     fn lower(&mut self) -> Result<(), Refusal>

@@ -4,3 +4,4 @@
 pub mod device;
 pub mod phase;
 pub mod pphase;
+pub mod signals;

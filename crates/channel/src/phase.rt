@@ -1,6 +1,10 @@
 // The six phases of a Q-Channel, their numbers and levels, and the changes between them.
 ghost use Rattle.std.specs.Prelude.{◌≡◌};
+ghost use Rattle.std.proofs.Common.{rules};
 ghost use Rattle.channel.specs.Phases.{number_of, levels_of, allowed, Single};
+ghost use Rattle.channel.specs.declared.phase.Phase.{Phase};
+
+use crate::signals::Signals;
 
 // Where a channel stands. The controller drives QREQn, the device QACCEPTn and QDENY.
 #[derive(Clone, Copy, PartialEq, Eq, Debug)]
@@ -13,25 +17,24 @@ pub enum Phase {
     Continue,
 }
 
-impl Phase {
-    // The phase's number, from 0.
-    pub fn number(self) -> u8
-        ensures { result ≡ number_of self }
-    {
-        match self {
-            Phase::Run => 0,
-            Phase::Request => 1,
-            Phase::Stopped => 2,
-            Phase::Exit => 3,
-            Phase::Denied => 4,
-            Phase::Continue => 5,
-        }
-    }
+// The phase's number, from 0.
+impl From<Phase> for u8 {
+    ghost from_gives = { λ phase n. n ≡ number_of phase };
 
-    // The levels of QREQn, QACCEPTn and QDENY, in this order.
-    pub fn levels(self) -> (bool, bool, bool)
-        ensures { result ≡ levels_of self }
-    {
+    fn from(phase: Phase) -> u8 {
+        phase as u8
+    }
+}
+
+impl Signals for Phase {
+    ghost levels = { levels_of };
+
+    ghost allowed = { allowed };
+
+    ghost edges = { let single : (p q : Phase) → Single p q = Prim.search rules in single };
+
+    // QREQn, QACCEPTn and QDENY.
+    fn levels(self) -> (bool, bool, bool) {
         match self {
             Phase::Run => (true, true, false),
             Phase::Request => (false, true, false),
@@ -42,21 +45,14 @@ impl Phase {
         }
     }
 
-    // Whether a channel may go from this phase straight to the next one.
-    // Each such change is an edge: it turns one of the three signals.
-    pub fn allows(self, next: Phase) -> bool
-        ensures value { result ≡ allowed self next }
-        ensures edges { Single self next }
-    {
-        match (self, next) {
-            (Phase::Run, Phase::Request) => true,
-            (Phase::Request, Phase::Stopped) => true,
-            (Phase::Request, Phase::Denied) => true,
-            (Phase::Stopped, Phase::Exit) => true,
-            (Phase::Exit, Phase::Run) => true,
-            (Phase::Denied, Phase::Continue) => true,
-            (Phase::Continue, Phase::Run) => true,
-            _ => false,
-        }
+    fn allows(self, next: Phase) -> bool {
+        matches!(
+            (self, next),
+            (Phase::Run, Phase::Request)
+                | (Phase::Request, Phase::Stopped | Phase::Denied)
+                | (Phase::Stopped, Phase::Exit)
+                | (Phase::Denied, Phase::Continue)
+                | (Phase::Exit | Phase::Continue, Phase::Run)
+        )
     }
 }

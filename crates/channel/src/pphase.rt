@@ -1,6 +1,10 @@
 // The six phases of a P-Channel, their numbers and levels, and the changes between them.
 ghost use Rattle.std.specs.Prelude.{◌≡◌};
+ghost use Rattle.std.proofs.Common.{rules};
 ghost use Rattle.channel.specs.PPhases.{p_number, p_levels, p_allowed, PSingle};
+ghost use Rattle.channel.specs.declared.pphase.PPhase.{PPhase};
+
+use crate::signals::Signals;
 
 // Where a P-Channel stands. The controller drives PREQ, the device PACCEPT and PDENY.
 #[derive(Clone, Copy, PartialEq, Eq, Debug)]
@@ -13,25 +17,24 @@ pub enum PPhase {
     Continue,
 }
 
-impl PPhase {
-    // The phase's number, from 0.
-    pub fn number(self) -> u8
-        ensures { result ≡ p_number self }
-    {
-        match self {
-            PPhase::Stable => 0,
-            PPhase::Request => 1,
-            PPhase::Accept => 2,
-            PPhase::Complete => 3,
-            PPhase::Denied => 4,
-            PPhase::Continue => 5,
-        }
-    }
+// The phase's number, from 0.
+impl From<PPhase> for u8 {
+    ghost from_gives = { λ phase n. n ≡ p_number phase };
 
-    // The levels of PREQ, PACCEPT and PDENY, in this order.
-    pub fn levels(self) -> (bool, bool, bool)
-        ensures { result ≡ p_levels self }
-    {
+    fn from(phase: PPhase) -> u8 {
+        phase as u8
+    }
+}
+
+impl Signals for PPhase {
+    ghost levels = { p_levels };
+
+    ghost allowed = { p_allowed };
+
+    ghost edges = { let single : (p q : PPhase) → PSingle p q = Prim.search rules in single };
+
+    // PREQ, PACCEPT and PDENY.
+    fn levels(self) -> (bool, bool, bool) {
         match self {
             PPhase::Stable => (false, false, false),
             PPhase::Request => (true, false, false),
@@ -42,21 +45,14 @@ impl PPhase {
         }
     }
 
-    // Whether a channel may go from this phase straight to the next one.
-    // Each such change turns one of the three signals.
-    pub fn allows(self, next: PPhase) -> bool
-        ensures value { result ≡ p_allowed self next }
-        ensures edges { PSingle self next }
-    {
-        match (self, next) {
-            (PPhase::Stable, PPhase::Request) => true,
-            (PPhase::Request, PPhase::Accept) => true,
-            (PPhase::Request, PPhase::Denied) => true,
-            (PPhase::Accept, PPhase::Complete) => true,
-            (PPhase::Denied, PPhase::Continue) => true,
-            (PPhase::Complete, PPhase::Stable) => true,
-            (PPhase::Continue, PPhase::Stable) => true,
-            _ => false,
-        }
+    fn allows(self, next: PPhase) -> bool {
+        matches!(
+            (self, next),
+            (PPhase::Stable, PPhase::Request)
+                | (PPhase::Request, PPhase::Accept | PPhase::Denied)
+                | (PPhase::Accept, PPhase::Complete)
+                | (PPhase::Denied, PPhase::Continue)
+                | (PPhase::Complete | PPhase::Continue, PPhase::Stable)
+        )
     }
 }

@@ -11,6 +11,7 @@ ghost use Rattle.converter.specs.Converter.{p_refusal_number, ask_answer, drop_a
 use crate::rules::{Mode, drive_for, mode_of, next_phase, next_state, note_for, task_for};
 use channel::device::QDevice;
 use channel::pphase::PPhase;
+use channel::signals::Signals;
 use joins::join::make_drive;
 use joins::rules::heard_of;
 
@@ -18,22 +19,19 @@ use joins::rules::heard_of;
 #[derive(Clone, Copy, PartialEq, Eq, Debug)]
 pub enum PRefusal {
     // ask elsewhere than at Stable
-    AskNotAtStable,
+    AskNotAtStable = 40,
     // ask for a state that is unused or above 15
-    StateUnused,
+    StateUnused = 41,
     // drop elsewhere than at Accept or Denied
-    DropNotAnswered,
+    DropNotAnswered = 42,
 }
 
-impl PRefusal {
-    pub fn number(self) -> u8
-        ensures { result ≡ p_refusal_number self }
-    {
-        match self {
-            PRefusal::AskNotAtStable => 40,
-            PRefusal::StateUnused => 41,
-            PRefusal::DropNotAnswered => 42,
-        }
+// A refusal's number.
+impl From<PRefusal> for u8 {
+    ghost from_gives = { λ why n. n ≡ p_refusal_number why };
+
+    fn from(why: PRefusal) -> u8 {
+        why as u8
     }
 }
 
@@ -83,7 +81,7 @@ impl<D> Converter<D> {
 
 impl<D: QDevice> Converter<D> {
     // A converter over a device, which it resets. It starts at Stable in state 0.
-    pub fn new(device: D) -> Self
+    pub fn new(mut device: D) -> Self
         ensures made { StartMade D.QDevice.makes device result }
         ensures kept { ConverterOrder D.QDevice.ordered D.QDevice.means D.QDevice.timing result }
         ensures begun { Begun (view_of D.QDevice.means result) }
@@ -91,7 +89,6 @@ impl<D: QDevice> Converter<D> {
         ensures leaves { tags (D.QDevice.means result.device).leaves ≡ tags (D.QDevice.means device).leaves }
         ensures bound { (time_of D.QDevice.means D.QDevice.timing result).bound ≡ 2 * (D.QDevice.timing device).bound }
     {
-        let mut device = device;
         device.reset();
         Converter {
             device,

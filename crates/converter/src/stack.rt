@@ -1,8 +1,8 @@
 // A converter is a pile: the promise holds of it over any device.
 ghost use Rattle.converter.specs.Converter.{view_of, time_of, ConverterOrder};
-ghost use Rattle.converter.specs.Stack.{p_kind, p_makes, p_resets};
+ghost use Rattle.converter.specs.Stack.{p_kind, p_answer, p_makes, p_resets};
 
-use crate::converter::Converter;
+use crate::converter::{Converter, PRefusal};
 use channel::device::QDevice;
 use pile::pile::Pile;
 
@@ -17,6 +17,8 @@ pub enum PCall {
 impl<D: QDevice> Pile for Converter<D> {
     type Call = PCall;
 
+    type Refusal = PRefusal;
+
     ghost view = { view_of D.QDevice.means };
 
     ghost timing = { time_of D.QDevice.means D.QDevice.timing };
@@ -27,6 +29,8 @@ impl<D: QDevice> Pile for Converter<D> {
 
     ghost kind = { p_kind };
 
+    ghost answer = { p_answer };
+
     ghost makes = { p_makes D.QDevice.means D.QDevice.makes };
 
     ghost resets = { p_resets D.QDevice.makes };
@@ -35,13 +39,13 @@ impl<D: QDevice> Pile for Converter<D> {
         self.reset();
     }
 
-    fn make(&mut self, call: PCall) -> bool {
+    fn make(&mut self, call: PCall) -> Result<(), PRefusal> {
         match call {
-            PCall::Ask(state) => self.ask(state).is_ok(),
-            PCall::Drop => self.drop().is_ok(),
+            PCall::Ask(state) => self.ask(state),
+            PCall::Drop => self.drop(),
             PCall::Step => {
                 self.step();
-                true
+                Ok(())
             }
         }
     }

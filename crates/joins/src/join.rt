@@ -157,10 +157,6 @@ impl<R: Rule, A: QDevice, B: QDevice> QDevice for Join<R, A, B> {
         self.denier // of the latest request
     }
 
-    fn levels(&self) -> (bool, bool, bool) {
-        self.phase.levels()
-    }
-
     fn lower(&mut self) -> Result<(), Refusal> {
         match self.phase {
             Phase::Run => {

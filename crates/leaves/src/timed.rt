@@ -68,10 +68,6 @@ impl QDevice for Timed {
         self.denier // of the latest request
     }
 
-    fn levels(&self) -> (bool, bool, bool) {
-        self.phase.levels()
-    }
-
     fn lower(&mut self) -> Result<(), Refusal> {
         match self.phase {
             Phase::Run => {

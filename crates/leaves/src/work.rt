@@ -45,13 +45,9 @@ impl Work {
         ensures pace { work_timing self.new ≡ work_timing self.old }
         ensures kept { InOrder WorkOrder work_means work_timing self.old → InOrder WorkOrder work_means work_timing self.new }
     {
-        match self.jobs.checked_add(n) {
-            Some(sum) => {
-                self.jobs = sum;
-                Ok(())
-            }
-            None => Err(JobRefusal::TooMany),
-        }
+        let sum = self.jobs.checked_add(n).ok_or(JobRefusal::TooMany)?;
+        self.jobs = sum;
+        Ok(())
     }
 
     pub(crate) fn is_tagged(&self, tag: u32) -> bool
@@ -83,10 +79,6 @@ impl QDevice for Work {
 
     fn denier(&self) -> Option<u32> {
         self.denier // of the latest request
-    }
-
-    fn levels(&self) -> (bool, bool, bool) {
-        self.phase.levels()
     }
 
     fn lower(&mut self) -> Result<(), Refusal> {

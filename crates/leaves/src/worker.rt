@@ -12,19 +12,17 @@ use channel::device::QDevice;
 #[derive(Clone, Copy, PartialEq, Eq, Debug)]
 pub enum JobRefusal {
     // there is no work leaf of that tag or name
-    NoWorkLeaf,
+    NoWorkLeaf = 22,
     // more than 65,535 jobs would wait
-    TooMany,
+    TooMany = 23,
 }
 
-impl JobRefusal {
-    pub fn number(self) -> u8
-        ensures { result ≡ job_number self }
-    {
-        match self {
-            JobRefusal::NoWorkLeaf => 22,
-            JobRefusal::TooMany => 23,
-        }
+// A refusal's number.
+impl From<JobRefusal> for u8 {
+    ghost from_gives = { λ why n. n ≡ job_number why };
+
+    fn from(why: JobRefusal) -> u8 {
+        why as u8
     }
 }
 

@@ -1,5 +1,7 @@
 -- A pile whose upper end is a Q-Channel, by what a Q device means.
-use Rattle.std.specs.Prelude.{◌≡◌, Bool, true, is_ok}
+use Rattle.std.specs.Prelude.{◌≡◌, Bool, true, is_ok, Ok, Result}
+use Rattle.channel.specs.declared.phase.Phase.{Phase}
+use Rattle.channel.specs.declared.device.Refusal.{Refusal}
 use Rattle.channel.specs.declared.device.Call.{Call}
 use Rattle.channel.specs.declared.device.Call.TheVariants as call
 use Rattle.channel.specs.Means.{Means}
@@ -16,6 +18,12 @@ abbrev pub q_kind : QCall → Kind
 q_kind Lower = stop
 q_kind Raise = back
 q_kind Step = tick
+
+-- a call's answer, by the phase before it: no step is refused
+abbrev pub q_answer : QCall → Phase → Result Unit Refusal
+q_answer Lower p = lower_answer p
+q_answer Raise p = raise_answer p
+q_answer Step p = Ok tt
 
 -- a call as the device itself makes it, accepted just where its answer is no refusal
 abbrev pub q_makes : {S : Type 0} → (S → Means) → (Call → S → S → Type 0) → QCall → Bool → S → S → Type 0

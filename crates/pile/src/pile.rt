@@ -1,5 +1,5 @@
 // A pile as seen from above, and the call that plays one.
-ghost use Rattle.std.specs.Prelude.{Bool};
+ghost use Rattle.std.specs.Prelude.{◌≡◌, Bool, Result, is_ok};
 ghost use Rattle.channel.specs.Timing.{Timing};
 ghost use Rattle.pile.specs.Views.{View, Begun};
 ghost use Rattle.pile.specs.Calls.{Kind};
@@ -9,6 +9,9 @@ ghost use Rattle.pile.specs.Runs.{Fit, Linked, Every, Promised};
 // and what kind of call each of its own calls is.
 pub trait Pile {
     type Call: Copy;
+
+    // why a call is refused
+    type Refusal: Copy;
 
     // where its channel stands, the leaves below, the denier
     ghost view: { Self → View };
@@ -22,6 +25,9 @@ pub trait Pile {
 
     ghost kind: { Self.Call → Kind };
 
+    // what a call answers, by the value before it
+    ghost answer: { Self.Call → Self → Result Unit Self.Refusal };
+
     // what a call makes of the whole value, accepted or refused
     ghost makes: { Self.Call → Bool → Self → Self → Type 0 };
 
@@ -33,10 +39,11 @@ pub trait Pile {
         ensures begun { piled self.old → Begun (view self.new) }
         ensures fit { piled self.old → Fit ordered view timing self.new };
 
-    // Makes one of the pile's own calls; tells whether it was accepted.
-    fn make(&mut self, call: Self::Call) -> bool
-        ensures exact { makes call result self.old self.new }
-        ensures linked { Fit ordered view timing self.old → Linked ordered view timing (kind call) result self.old self.new };
+    // Makes one of the pile's own calls.
+    fn make(&mut self, call: Self::Call) -> Result<(), Self::Refusal>
+        ensures answer { result ≡ answer call self.old }
+        ensures exact { makes call (is_ok result) self.old self.new }
+        ensures linked { Fit ordered view timing self.old → Linked ordered view timing (kind call) (is_ok result) self.old self.new };
 }
 
 // Resets a pile and makes these calls, one after the other. Whatever they are and whatever its devices
@@ -47,6 +54,6 @@ pub fn play<P: Pile>(pile: &mut P, calls: &[P::Call])
 {
     pile.restart();
     for call in calls {
-        pile.make(*call);
+        let _ = pile.make(*call);
     }
 }

@@ -17,7 +17,7 @@ loop-call-preserved g c = λ f.
     ∙ ap (λ x. take i c.args.calls.now ++ (x ∷ [])) (sym c.call-item.is) in
     subst (λ cs. Ran g.P.Pile.ordered g.P.Pile.view g.P.Pile.timing g.P.Pile.kind g.P.Pile.makes cs
     c.restart.new.self c.make.new.self) (sym more)
-    (ran_more _ _ _ _ _ _ _ _ _ item c.make.result r c.make.ensures.exact (c.make.ensures.linked r.fit))
+    (ran_more _ _ _ _ _ _ _ _ _ item _ r c.make.ensures.exact (c.make.ensures.linked r.fit))
 
 pub returns : goal.returns
 returns g c = record {

@@ -4,6 +4,7 @@ use Rattle.joins.proofs.stack.JoinPile.make.Goals as goal
 
 pub returns : goal.returns
 returns g c = record {
+  answer = c.own_call.ensures.answer;
   exact = c.own_call.ensures.exact;
   linked = λ f.
       let w = whole g.R.Rule.kind g.A.QDevice.ordered g.A.QDevice.means g.A.QDevice.timing
