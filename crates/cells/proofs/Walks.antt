@@ -1,31 +1,13 @@
 -- The code's walks over the cells are those of the definitions.
-use Rattle.std.proofs.Common.{◌≡◌, ℕ, zero, suc, ◌+◌, ◌-◌, ◌<◌, true, false, List, sym, refl, ap, ◌∙◌, subst, add-one, arith}
-use Rattle.channel.specs.declared.phase.Phase.{Phase}
-use Rattle.joins.specs.declared.rules.Drive.{Drive}
+use Rattle.std.proofs.Common.{◌≡◌, ℕ, zero, suc, ◌+◌, ◌-◌, ◌<◌, ◌≤◌, ◌⊎◌, inl, inr, List, ◌++◌, length, take, drop, set, get_or, min, sym, refl, ap, ◌∙◌, add-one, arith}
+use Rattle.std.proofs.Math.Nat.{zero-min, min-eq_left}
+use Rattle.std.proofs.lemmas.Bool.{cases_lt}
+use Rattle.std.proofs.lemmas.List.{take-append-drop, set-append_left, get_or_append_left, get_or_default, set_past}
 use Rattle.cells.specs.declared.cell.Body.{Body}
 use Rattle.cells.specs.declared.cell.Cell.{Cell}
-use Rattle.cells.specs.Bodies.{body_phase, driven_body, answered_body, reset_body, to_first, to_second}
-use Rattle.cells.specs.Flat.{body_at, put, first_of, second_of, is_join, drive_pair, drive_by, drive_line, drive_from, answer_line, answer_to, reset_to}
-
-pub drives_pair : (cs ds es : List Cell) (i a b : ℕ) (line x y : Body) (p q : Phase) (wa wb : Drive) (xa yb : Body)
-    → line ≡ body_at cs i → is_join line ≡ true → a ≡ first_of line → b ≡ second_of line → x ≡ body_at cs a → y ≡ body_at cs b
-    → p ≡ body_phase x → q ≡ body_phase y → wa ≡ to_first line p q → xa ≡ driven_body wa x → ds ≡ put cs a xa
-    → wb ≡ to_second line p q → yb ≡ driven_body wb y → es ≡ put ds b yb → es ≡ drive_line i cs
-unfolding drive_by drive_pair
-drives_pair cs ds es i a b line x y p q wa wb xa yb el j ea eb ex ey ep eq ew exa ed ev eyb ee =
-    (rw (ee, ed, eyb, exa, ev, ew, ep, eq, ex, ey, ea, eb) refl)
-    ∙ (subst (λ c. drive_pair cs line (first_of line) (second_of line) ≡ drive_by c cs line) (sym j) refl
-    ∙ ap (λ l. drive_by (is_join l) cs l) el)
-
-pub drives_none : (cs : List Cell) (i : ℕ) (line : Body) → line ≡ body_at cs i → is_join line ≡ false → cs ≡ drive_line i cs
-unfolding drive_by
-drives_none cs i line el j =
-    subst (λ c. cs ≡ drive_by c cs line) (sym j) refl ∙ ap (λ l. drive_by (is_join l) cs l) el
-
-pub answers_line : (cs ds : List Cell) (i : ℕ) (line x y b : Body) (f s : ℕ) → line ≡ body_at cs i → f ≡ first_of line → x ≡ body_at cs f
-    → s ≡ second_of line → y ≡ body_at cs s → b ≡ answered_body line x y → ds ≡ put cs i b → ds ≡ answer_line i cs
-unfolding answer_line
-answers_line cs ds i line x y b f s el ef ex es ey eb ed = rw (ed, eb, ex, ey, ef, es, el) refl
+use Rattle.cells.specs.Bodies.{reset_body}
+use Rattle.cells.specs.Flat.{absent, at, with_body, put, drive_line, drive_from, answer_line, answer_to, reset_to}
+use Rattle.cells.proofs.Passes.{length_put}
 
 pub drive_down : (i : ℕ) (cs ds : List Cell) → 0 < i → ds ≡ drive_line (i - 1) cs → drive_from (i - 1) ds ≡ drive_from i cs
 unfolding drive_from
@@ -38,11 +20,6 @@ pub answer_up : (k : ℕ) (cs ms ds : List Cell) → ms ≡ answer_to k cs → d
 unfolding answer_to
 answer_up k cs ms ds e f = f ∙ (ap (answer_line k) e ∙ sym (ap (λ j. answer_to j cs) (add-one k)))
 
-pub reset_up : (k : ℕ) (cs ms ds : List Cell) (line b : Body) → ms ≡ reset_to k cs → line ≡ body_at ms k → b ≡ reset_body line → ds ≡ put ms k b
-    → ds ≡ reset_to (k + 1) cs
-unfolding reset_to
-reset_up k cs ms ds line b e el eb ed = rw (ed, eb, el, e) (sym (ap (λ j. reset_to j cs) (add-one k)))
-
 pub drive_start : (n : ℕ) (cs ds : List Cell) → drive_from 0 ds ≡ drive_from n cs → ds ≡ drive_from n cs
 unfolding drive_from
 drive_start n cs ds e = e
@@ -51,6 +28,33 @@ pub answer_start : (cs : List Cell) → cs ≡ answer_to 0 cs
 unfolding answer_to
 answer_start cs = refl
 
-pub reset_start : (cs : List Cell) → cs ≡ reset_to 0 cs
+length_reset : (n : ℕ) (cs : List Cell) → length (reset_to n cs) ≡ length cs
 unfolding reset_to
-reset_start cs = refl
+length_reset zero cs = refl
+length_reset (suc n) cs = length_put (reset_to n cs) n _ ∙ length_reset n cs
+
+-- a reset of lines that are not there resets those that are
+pub reset_past : (n : ℕ) (cs : List Cell) → reset_to (min n (length cs)) cs ≡ reset_to n cs
+unfolding reset_to put
+reset_past zero cs = ap (λ k. reset_to k cs) (zero-min (length cs))
+reset_past (suc n) cs = by (cases_lt n (length cs)) (reset_past n cs)
+  where
+    by : (n < length cs) ⊎ (length cs ≤ n) → reset_to (min n (length cs)) cs ≡ reset_to n cs
+        → reset_to (min (suc n) (length cs)) cs ≡ reset_to (suc n) cs
+    by (inl h) e = ap (λ k. reset_to k cs) (min-eq_left h)
+    by (inr h) e =
+        let m : min (suc n) (length cs) ≡ min n (length cs) = omega arith in
+        ap (λ k. reset_to k cs) m ∙ (e ∙ sym (set_past (reset_to n cs) n _ (omega (arith, length_reset n cs))))
+
+-- no line is reset yet
+pub reset_none : (n : ℕ) (cs : List Cell) → take n cs ++ drop n cs ≡ reset_to 0 cs
+unfolding reset_to
+reset_none n cs = take-append-drop n cs
+
+-- one line more is reset
+pub reset_more : (k : ℕ) (cs xs ys : List Cell) (x : Cell) (b : Body) → k < length xs → xs ++ ys ≡ reset_to k cs → b ≡ reset_body (get_or xs k x).body
+    → set xs k (with_body (get_or xs k x) b) ++ ys ≡ reset_to (k + 1) cs
+unfolding reset_to put
+reset_more k cs xs ys x b h e eb =
+    let at_k : at (reset_to k cs) k ≡ get_or xs k x = ap (λ l. at l k) (sym e) ∙ (get_or_append_left xs ys absent k h ∙ get_or_default xs k absent x h) in
+    sym (set-append_left xs ys k _ h) ∙ (ap (λ l. set l k (with_body (get_or xs k x) b)) e ∙ rw (add-one, at_k, eb, ap (λ c. c.body) at_k) refl)

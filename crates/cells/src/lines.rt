@@ -3,54 +3,50 @@ ghost use Rattle.std.specs.Prelude.{◌≡◌};
 ghost use Rattle.cells.specs.Flat.{body_at, put, drive_line, answer_line, stepped, reset_to};
 
 use crate::cell::{Body, Cell};
-use crate::rules::{
-    body_answered, body_driven, body_reset, first_line, first_wish, is_joining, phase_in,
-    second_line, second_wish,
-};
 
 // The device of line i; blank past the end.
 pub fn body_of(cells: &[Cell], i: usize) -> Body
     ensures { result ≡ body_at cells.now i }
 {
-    if i < cells.len() {
-        cells[i].body
-    } else {
-        Body::Blank
-    }
+    cells.get(i).map_or(Body::Blank, |cell| cell.body)
 }
 
 // Writes the device of line i; nothing past the end.
+#[tactic(auto, unfolding(crate::specs::Flat::put))]
 pub fn put_body(cells: &mut [Cell], i: usize, body: Body)
     ensures { cells.new ≡ put cells.old i body }
 {
+    // not by get_mut: after it a proof knows the cells' number alone
     if i < cells.len() {
-        let name = cells[i].name;
-        cells[i] = Cell { name, body };
+        cells[i].body = body;
     }
 }
 
 // Line i drives its first device, then its second, both by their phases before.
+#[tactic(auto, unfolding(crate::specs::Flat::drive_by, crate::specs::Flat::drive_pair))]
 pub fn drive_devices(cells: &mut [Cell], i: usize)
     ensures { cells.new ≡ drive_line i cells.old }
 {
     let line = body_of(cells, i);
-    if is_joining(line) {
-        let (a, b) = (first_line(line), second_line(line));
+    if let Some((a, b)) = line.devices() {
         let (x, y) = (body_of(cells, a), body_of(cells, b));
-        let (p, q) = (phase_in(x), phase_in(y));
-        put_body(cells, a, body_driven(first_wish(line, p, q), x));
-        put_body(cells, b, body_driven(second_wish(line, p, q), y));
+        let (first, second) = line.drives(x.phase(), y.phase());
+        put_body(cells, a, x.driven(first));
+        put_body(cells, b, y.driven(second));
     }
 }
 
 // Line i answers, its devices having answered before it.
+#[tactic(auto, unfolding(crate::specs::Flat::answer_line))]
 pub fn answer_devices(cells: &mut [Cell], i: usize)
     ensures { cells.new ≡ answer_line i cells.old }
 {
     let line = body_of(cells, i);
-    let x = body_of(cells, first_line(line));
-    let y = body_of(cells, second_line(line));
-    put_body(cells, i, body_answered(line, x, y));
+    let answered = match line.devices() {
+        Some((a, b)) => line.answered(body_of(cells, a), body_of(cells, b)),
+        None => line.answered(Body::Blank, Body::Blank), // a leaf looks at no device
+    };
+    put_body(cells, i, answered);
 }
 
 // One step of the first n lines: lines from last to first drive, lines from first to last answer.
@@ -69,8 +65,8 @@ pub fn step_lines(cells: &mut [Cell], n: usize)
 pub fn reset_lines(cells: &mut [Cell], n: usize)
     ensures { cells.new ≡ reset_to n cells.old }
 {
-    for i in 0..n {
-        let line = body_of(cells, i);
-        put_body(cells, i, body_reset(line));
+    let n = n.min(cells.len());
+    for cell in cells[..n].iter_mut() {
+        cell.body = cell.body.reset();
     }
 }
