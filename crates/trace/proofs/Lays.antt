@@ -5,7 +5,8 @@ use Rattle.std.specs.List.{concat, flat_map}
 use Rattle.std.proofs.lemmas.List.{take_more, take_all, flat_map_more}
 use Rattle.std.proofs.lemmas.List.Folds.{length-flat_map-take}
 use Rattle.trace.specs.declared.sheet.Sheet as declared
-use Rattle.trace.specs.Written.{IsSame}
+use Rattle.trace.specs.Texts.{parts_line}
+use Rattle.trace.specs.Written.{written, IsSame, Adds}
 use lib.Seq.{paste, length-paste, paste-zero}
 use Rattle.std.proofs.lemmas.List.Edits.{paste-paste}
 use Rattle.std.proofs.lemmas.Bool.{cond-true, cond-false, le-leb, lt-leb}
@@ -93,3 +94,22 @@ parts_taken ps i h = ap (flat_map (λ p. p.now)) (take_all i ps h)
 
 pub same_then : (s t u : declared.Sheet) → IsSame s t → IsSame t u → IsSame s u
 same_then s t u e f = record { tick = f.tick ∙ e.tick; buffer = f.buffer ∙ e.buffer }
+
+-- how long a line of five parts is
+pub parts_long : (a b c d e : List ℕ) → length (parts_line (a ∷ b ∷ c ∷ d ∷ e ∷ [])) ≡ length a + length b + length c + length d + length e + 1
+parts_long a b c d e = simp length-append (omega arith)
+
+-- lines added to a sheet
+pub adds_none : (s : declared.Sheet) → Adds s s []
+unfolding onto
+adds_none s = record { lines = refl; same = record { tick = refl; buffer = refl } }
+
+pub adds_one : (s t : declared.Sheet) (l : List ℕ) → written t ≡ line_onto (written s) l → IsSame s t → Adds s t (l ∷ [])
+unfolding onto
+adds_one s t l e same = record { lines = e; same = same }
+
+pub adds_then : (s t u : declared.Sheet) (ls ms : List (List ℕ)) → Adds s t ls → Adds t u ms → Adds s u (ls ++ ms)
+adds_then s t u ls ms a b = record {
+  lines = b.lines ∙ (ap (λ x. onto x ms) a.lines ∙ sym (onto_more (written s) ls ms));
+  same = same_then s t u a.same b.same;
+}
