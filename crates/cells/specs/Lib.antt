@@ -1,3 +1,4 @@
 pub mod Bodies
 pub mod Nests
 pub mod Flat
+pub mod Edges

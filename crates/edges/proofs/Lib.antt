@@ -1,5 +1,3 @@
-pub mod Names
-pub mod Seen
 pub mod Writes
 pub mod Room
 pub mod Allows

@@ -19,7 +19,7 @@ use Rattle.trace.proofs.Lays.{parts_long}
 use Rattle.edges.specs.Edges.{Edge, phase_at, change, drive_edges_by, drive_edges, drives_from, answers_to, step_edges}
 use Rattle.edges.specs.Lines.{name_at, edge_lines, is_denied, leaf_name, denied_lines, last_phase, step_lines}
 use Rattle.edges.specs.Room.{joins_to, Roomy}
-use Rattle.edges.proofs.Names.{cell_name_put}
+use Rattle.cells.proofs.Names.{cell_name_put}
 
 -- cells that have kept their names, and their joins
 pub record Lasting (cs ds : List Cell) : Type 0 where

@@ -1,5 +1,5 @@
 -- What is written of the edges of a step.
-use Rattle.std.proofs.Common.{◌≡◌, ℕ, zero, suc, ◌+◌, ◌<◌, Bool, true, false, cond, not, ◌&&◌, eqb, List, [], ◌∷◌, ◌++◌, sym, refl, ap, ◌∙◌, subst, add-one, arith}
+use Rattle.std.proofs.Common.{◌≡◌, ℕ, zero, suc, ◌+◌, ◌<◌, Bool, true, false, cond, not, ◌&&◌, eqb, List, [], ◌∷◌, sym, refl, ap, ◌∙◌, subst, add-one, arith}
 use Rattle.std.proofs.lemmas.Bool.Decides.{nat_tests}
 use denote.Enum.Bare.{sameb}
 use Rattle.channel.specs.contracts.phase.Phase.{the_type}
@@ -9,15 +9,10 @@ use Rattle.channel.specs.Phases.{number_of}
 use Rattle.trace.specs.declared.sheet.Sheet.{Sheet}
 use Rattle.trace.specs.Written.{Adds}
 use Rattle.trace.specs.Texts.{edge_text}
-use Rattle.trace.proofs.Lays.{adds_none, adds_then}
+use Rattle.trace.proofs.Lays.{adds_none}
 use Rattle.cells.specs.declared.cell.Cell.{Cell}
 use Rattle.edges.specs.Edges.{Edge, change}
 use Rattle.edges.specs.Lines.{edge_lines, moved_lines, is_denied, denied_lines}
-
-pub lines_more : (tick : List ℕ) (names : ℕ → List ℕ) (es fs : List Edge) → edge_lines tick names (es ++ fs) ≡ edge_lines tick names es ++ edge_lines tick names fs
-unfolding edge_lines
-lines_more tick names [] fs = refl
-lines_more tick names (e ∷ es) fs = ap (λ ls. edge_text tick (names e.line) e.to ∷ ls) (lines_more tick names es fs)
 
 -- one channel alone, by its name
 pub moved_edges : (tick w : List ℕ) (names : ℕ → List ℕ) (p q : Phase) (i : ℕ) → w ≡ names i → moved_lines tick w p q ≡ edge_lines tick names (change p q i)
@@ -37,19 +32,6 @@ same_numbers p q = grind (arith, nat_tests)
 
 pub same_denied : (p : Phase) → sameb the_type p Denied ≡ is_denied p
 same_denied p = grind (arith, nat_tests)
-
--- what is traced of edges
-abbrev pub Traced : (ℕ → List ℕ) → List Edge → Sheet → Sheet → Type 0
-Traced f es s t = Adds s t (edge_lines s.tick.now f es)
-
-pub traced_none : (f : ℕ → List ℕ) (s : Sheet) → Traced f [] s s
-unfolding edge_lines
-traced_none f s = adds_none s
-
-pub traced_more : (f : ℕ → List ℕ) (es fs : List Edge) (s t u : Sheet) → Traced f es s t → Traced f fs t u → Traced f (es ++ fs) s u
-traced_more f es fs s t u a b =
-    subst (Adds s u) (sym (lines_more s.tick.now f es fs))
-    (adds_then s t u _ _ a (subst (λ x. Adds t u (edge_lines x.now f fs)) a.same.tick b))
 
 -- who denied
 pub ends_empty : (s : Sheet) (tick : List ℕ) (p : Phase) (n : ℕ) (cs : List Cell) → n < 1 → Adds s s (denied_lines tick p n cs)

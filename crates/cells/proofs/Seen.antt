@@ -5,9 +5,9 @@ use Rattle.cells.specs.declared.cell.Body.{Body}
 use Rattle.cells.specs.declared.cell.Cell.{Cell}
 use Rattle.cells.specs.Flat.{body_at, first_of, second_of, is_join, drive_line, drive_from, answer_line, answer_to, stepped}
 use Rattle.cells.proofs.Walks.{drive_down, drive_start}
-use Rattle.edges.specs.Edges.{Edge, phase_at, change, drive_edges_by, drive_edges, drives_from, answer_edges, answers_to, step_edges}
-use Rattle.edges.specs.Lines.{name_at}
-use Rattle.edges.proofs.Names.{cell_name_driven, cell_name_answered, cell_name_answers, named}
+use Rattle.cells.specs.Edges.{Edge, phase_at, change, drive_edges_by, drive_edges, drives_from, answer_edges, answers_to, step_edges}
+use Rattle.cells.specs.Edges.{name_at}
+use Rattle.cells.proofs.Names.{cell_name_driven, cell_name_answered, cell_name_answers, named}
 
 pub devices_none : (b : Body) (r : Option (ℕ × ℕ)) → r ≡ cond {A = Option (ℕ × ℕ)} (is_join b) (Some (first_of b, second_of b)) None → r ≡ None → is_join b ≡ false
 devices_none b r e n = by (is_join b) (sym e ∙ n)

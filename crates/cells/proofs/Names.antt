@@ -6,7 +6,7 @@ use Rattle.cells.specs.declared.cell.Body.{Body}
 use Rattle.cells.specs.declared.cell.Cell.{Cell}
 use Rattle.words.specs.Names.{text_of}
 use Rattle.cells.specs.Flat.{absent, at, body_at, with_body, put, is_join, drive_pair, drive_by, drive_line, drive_from, answer_line, answer_to, stepped}
-use Rattle.edges.specs.Lines.{name_at}
+use Rattle.cells.specs.Edges.{name_at}
 
 pub cell_name_put : (cs : List Cell) (i j : ℕ) (b : Body) → (at (put cs i b) j).name ≡ (at cs j).name
 unfolding put
