@@ -1,14 +1,16 @@
 -- A word gives back what was read of it, and the words of a line give back the line. Assumes nothing.
 use Rattle.std.proofs.Common.{◌≡◌, ℕ, suc, ◌-◌, ◌<◌, ◌≤◌, min, Bool, true, false, cond, not, ◌&&◌, ◌||◌, eqb, ltb, leb, List, [], ◌∷◌, ◌++◌, length, get_or, take, replicate, Some, None, decimal, Option, sym, refl, ap, ◌∙◌, subst, sub-one, arith, rules}
+use Rattle.std.specs.List.{onto_first}
 use Rattle.std.proofs.lemmas.List.{take_all, take_at}
+use Rattle.std.proofs.lemmas.List.Splits.{join_with_byte-slice_split}
 use Rattle.std.proofs.lemmas.Bool.{and_parts, leb-true, ltb-false, eqb-true, eqb-false}
 use Rattle.std.proofs.lemmas.Str.Parse.{IsNumeralModel, numerals_by_fold}
 use Rattle.std.proofs.lemmas.Fmt.{decimal-digits_value}
-use Rattle.words.specs.Pieces.{pieces, onto, words_of, lines_of, spaced, unlines}
+use Rattle.words.specs.Pieces.{words_of, lines_of, spaced, unlines}
 use Rattle.words.specs.Numbers.{digits, value_on, value, well_led, within, decimal_of, at_least, number_of}
 use Rattle.words.specs.Names.{letter, legal, name_of, text_of}
-use Rattle.words.specs.Shorts.{short_of}
-use Rattle.words.proofs.Cuts.{pieces_count, lines_at}
+use Rattle.words.specs.Shorts.{room, short_of, short_text}
+use Rattle.words.proofs.Cuts.{lines_at}
 
 -- names
 
@@ -16,12 +18,16 @@ pub legal_short : (w : List ℕ) → legal w ≡ true → length w ≤ 12
 legal_short [] e = omega arith
 legal_short (c ∷ cs) e = leb-true _ _ (and_parts _ _ (and_parts (letter c) _ e).1).0
 
+-- a text that is short enough is stored whole
+pub text_short : (n : ℕ) (w : List ℕ) → length w ≤ n → n ≤ 255 → short_text (short_of n w) ≡ w
+unfolding short_of
+text_short n w h k =
+    let m : min (length w) (room n) ≡ length w = omega arith in
+    (λ i. take (m i) (take_all (room n) w (omega arith) i ++ replicate (n - m i) 0)) ∙ take_at w (replicate (n - length w) 0) (length w) refl
+
 -- a name that is stored is the word
 pub text_name : (w : List ℕ) → length w ≤ 12 → text_of (name_of w) ≡ w
-unfolding short_of
-text_name w h =
-    let m : min (length w) 12 ≡ length w = omega arith in
-    (λ i. take (m i) (take_all 12 w h i ++ replicate (12 - m i) 0)) ∙ take_at w (replicate (12 - length w) 0) (length w) refl
+text_name w h = text_short 12 w h (omega arith)
 
 -- numbers
 
@@ -79,35 +85,17 @@ number_says low w v e = by (well_led w) refl f.0
 
 -- words and lines
 
-some_word : (b : ℕ) (t : List ℕ) (P : List (List ℕ) → Type 0) → ((p : List ℕ) (ps : List (List ℕ)) → P (p ∷ ps)) → P (pieces ([] ∷ []) b t)
-some_word b t P f = by (pieces ([] ∷ []) b t) (let e = pieces_count b t in omega arith)
-  where
-    by : (ps : List (List ℕ)) → 0 < length ps → P ps
-    by [] e = absurd (omega arith)
-    by (p ∷ ps) e = f p ps
-
-spaced_onto : (x : ℕ) (p : List ℕ) (ps : List (List ℕ)) → spaced (onto x (p ∷ ps)) ≡ x ∷ spaced (p ∷ ps)
-unfolding spaced
-spaced_onto x p [] = refl
-spaced_onto x p (q ∷ ps) = refl
-
 pub spaced_words : (l : List ℕ) → spaced (words_of l) ≡ l
-unfolding pieces spaced
-spaced_words [] = refl
-spaced_words (x ∷ xs) = by (eqb x 32) (eqb-true x 32) (spaced_words xs)
-  where
-    by : (t : Bool) → (t ≡ true → x ≡ 32) → spaced (words_of xs) ≡ xs → spaced (cond t ([] ∷ words_of xs) (onto x (words_of xs))) ≡ x ∷ xs
-    by true e ih = some_word 32 xs (λ ps. spaced ([] ∷ ps) ≡ 32 ∷ spaced ps) (λ p ps. refl) ∙ (λ i. sym (e refl) i ∷ ih i)
-    by false e ih = some_word 32 xs (λ ps. spaced (onto x ps) ≡ x ∷ spaced ps) (spaced_onto x) ∙ ap (λ r. x ∷ r) ih
+spaced_words l = join_with_byte-slice_split 32 l
 
-unlines_onto : (x : ℕ) (ps : List (List ℕ)) → 0 < length ps → unlines (onto x ps) ≡ x ∷ unlines ps
+unlines_onto : (x : ℕ) (ps : List (List ℕ)) → 0 < length ps → unlines (onto_first x ps) ≡ x ∷ unlines ps
 unfolding unlines
 unlines_onto x [] h = absurd (omega arith)
 unlines_onto x (p ∷ ps) h = refl
 
 -- the lines of a text that ends in byte 10, each ended by byte 10, are the text
 pub unlines_lines : (t : List ℕ) → (0 < length t → get_or t (length t - 1) 0 ≡ 10) → unlines (lines_of t) ≡ t
-unfolding pieces unlines
+unfolding lines_of unlines
 unlines_lines [] e = refl
 unlines_lines (x ∷ []) e = by (eqb x 10) (eqb-true x 10) (eqb-false x 10)
   where
@@ -122,8 +110,8 @@ unlines_lines (x ∷ y ∷ ys) e =
     rest = lines_of (y ∷ ys)
 
     more : 0 < length rest
-    more = subst (λ ps. 0 < length ps) (sym (lines_at 10 (y ∷ ys) (omega arith))) (omega arith)
+    more = subst (λ ps. 0 < length ps) (sym (lines_at (y ∷ ys) (omega arith))) (omega arith)
 
-    by : (t : Bool) → (t ≡ true → x ≡ 10) → unlines rest ≡ y ∷ ys → unlines (cond t ([] ∷ rest) (onto x rest)) ≡ x ∷ y ∷ ys
+    by : (t : Bool) → (t ≡ true → x ≡ 10) → unlines rest ≡ y ∷ ys → unlines (cond t ([] ∷ rest) (onto_first x rest)) ≡ x ∷ y ∷ ys
     by true p ih = λ i. sym (p refl) i ∷ ih i
     by false p ih = unlines_onto x rest more ∙ ap (λ r. x ∷ r) ih
