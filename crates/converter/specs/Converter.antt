@@ -1,5 +1,5 @@
 -- A converter over any device: what is seen of it, when it is in order, and what its calls make of it.
-use Rattle.std.specs.Prelude.{◌≡◌, ℕ, cond, is_some, is_ok, None, Ok, Err, Option, Result}
+use Rattle.std.specs.Prelude.{◌≡◌, ℕ, Bool, cond, is_some, is_ok, None, Ok, Err, Option, Result}
 use Rattle.channel.specs.declared.pphase.PPhase.{PPhase}
 use Rattle.channel.specs.declared.pphase.PPhase.TheVariants as p
 use Rattle.channel.specs.declared.device.Call.{Call}
@@ -8,6 +8,8 @@ use Rattle.channel.specs.Means.{Means}
 use Rattle.channel.specs.Timing.{Timing}
 use Rattle.channel.specs.Device.{InOrder}
 use Rattle.pile.specs.Views.{View}
+use Rattle.pile.specs.Calls.{Kind}
+use Rattle.pile.specs.Runs.{Fit, Linked}
 use Rattle.joins.specs.Rules.{heard, DriveMakes}
 use Rattle.converter.specs.declared.rules.Mode.{Mode}
 use Rattle.converter.specs.declared.rules.Mode.TheVariants as mode
@@ -57,6 +59,15 @@ module _ {D : Type 0} where
   pub record ConverterOrder (od : D → Type 0) (md : D → Means) (td : D → Timing) (c : Converter D) : Type 0 where
     pub device : InOrder od md td c.device
     pub over : Over c.phase (mode_of c.state) (mode_of c.asked) c.denier (md c.device)
+
+  -- in order as a pile
+  abbrev pub ConverterFit : (od : D → Type 0) (md : D → Means) (td : D → Timing) → Converter D → Type 0
+  ConverterFit od md td c = Fit (ConverterOrder od md td) (view_of md) (time_of md td) c
+
+  -- in order, a converter goes from b to c as a call of this kind does
+  abbrev pub Links : (od : D → Type 0) (md : D → Means) (td : D → Timing) → Kind → Bool → Converter D → Converter D → Type 0
+  Links od md td k accepted b c =
+      ConverterOrder od md td b → Linked (ConverterOrder od md td) (view_of md) (time_of md td) k accepted b c
 
   -- the same converter in another phase
   abbrev pub moved : Converter D → PPhase → ℕ → Option ℕ → Converter D

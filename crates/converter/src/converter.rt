@@ -4,11 +4,10 @@ ghost use Rattle.channel.specs.PPhases.{p_levels};
 ghost use Rattle.channel.specs.Means.{tags};
 ghost use Rattle.channel.specs.Calls.{Reset};
 ghost use Rattle.pile.specs.Calls.{stop, back, tick};
-ghost use Rattle.pile.specs.Runs.{Fit, Linked};
 ghost use Rattle.pile.specs.Views.{Begun};
-ghost use Rattle.converter.specs.Converter.{p_refusal_number, ask_answer, drop_answer, after_ask, drop_at, StepMade, StartMade, ConverterOrder, view_of, time_of};
+ghost use Rattle.converter.specs.Converter.{p_refusal_number, ask_answer, drop_answer, after_ask, drop_at, StepMade, StartMade, ConverterOrder, ConverterFit, Links, view_of, time_of};
 
-use crate::rules::{Mode, drive_for, mode_of, next_phase, next_state, note_for, task_for};
+use crate::rules::{Mode, drive_for, next_phase, next_state, note_for, task_for};
 use channel::device::QDevice;
 use channel::pphase::PPhase;
 use channel::signals::Signals;
@@ -85,7 +84,7 @@ impl<D: QDevice> Converter<D> {
         ensures made { StartMade D.QDevice.makes device result }
         ensures kept { ConverterOrder D.QDevice.ordered D.QDevice.means D.QDevice.timing result }
         ensures begun { Begun (view_of D.QDevice.means result) }
-        ensures fit { Fit (ConverterOrder D.QDevice.ordered D.QDevice.means D.QDevice.timing) (view_of D.QDevice.means) (time_of D.QDevice.means D.QDevice.timing) result }
+        ensures fit { ConverterFit D.QDevice.ordered D.QDevice.means D.QDevice.timing result }
         ensures leaves { tags (D.QDevice.means result.device).leaves ≡ tags (D.QDevice.means device).leaves }
         ensures bound { (time_of D.QDevice.means D.QDevice.timing result).bound ≡ 2 * (D.QDevice.timing device).bound }
     {
@@ -103,9 +102,9 @@ impl<D: QDevice> Converter<D> {
     pub fn ask(&mut self, state: u8) -> Result<(), PRefusal>
         ensures answer { result ≡ ask_answer self.old.phase state }
         ensures exact { self.new ≡ after_ask self.old state }
-        ensures linked { ConverterOrder D.QDevice.ordered D.QDevice.means D.QDevice.timing self.old → Linked (ConverterOrder D.QDevice.ordered D.QDevice.means D.QDevice.timing) (view_of D.QDevice.means) (time_of D.QDevice.means D.QDevice.timing) stop (is_ok result) self.old self.new }
+        ensures linked { Links D.QDevice.ordered D.QDevice.means D.QDevice.timing stop (is_ok result) self.old self.new }
     {
-        match (self.phase, mode_of(state)) {
+        match (self.phase, Mode::from(state)) {
             (PPhase::Stable, Mode::Unused) => Err(PRefusal::StateUnused),
             (PPhase::Stable, _) => {
                 self.phase = PPhase::Request;
@@ -121,7 +120,7 @@ impl<D: QDevice> Converter<D> {
     pub fn drop(&mut self) -> Result<(), PRefusal>
         ensures answer { result ≡ drop_answer self.old.phase }
         ensures exact { self.new ≡ drop_at self.old.phase self.old }
-        ensures linked { ConverterOrder D.QDevice.ordered D.QDevice.means D.QDevice.timing self.old → Linked (ConverterOrder D.QDevice.ordered D.QDevice.means D.QDevice.timing) (view_of D.QDevice.means) (time_of D.QDevice.means D.QDevice.timing) back (is_ok result) self.old self.new }
+        ensures linked { Links D.QDevice.ordered D.QDevice.means D.QDevice.timing back (is_ok result) self.old self.new }
     {
         match self.phase {
             PPhase::Accept => {
@@ -139,10 +138,10 @@ impl<D: QDevice> Converter<D> {
     // Lets one step pass.
     pub fn step(&mut self)
         ensures exact { StepMade D.QDevice.means D.QDevice.makes self.old self.new }
-        ensures linked { ConverterOrder D.QDevice.ordered D.QDevice.means D.QDevice.timing self.old → Linked (ConverterOrder D.QDevice.ordered D.QDevice.means D.QDevice.timing) (view_of D.QDevice.means) (time_of D.QDevice.means D.QDevice.timing) tick true self.old self.new }
+        ensures linked { Links D.QDevice.ordered D.QDevice.means D.QDevice.timing tick true self.old self.new }
     {
         let from = self.phase;
-        let task = task_for(from, mode_of(self.state), mode_of(self.asked));
+        let task = task_for(from, self.state.into(), self.asked.into());
         let noted = self.denier.is_some();
         let before = self.device.phase();
         make_drive(&mut self.device, drive_for(task, noted, before));

@@ -14,14 +14,17 @@ pub enum Mode {
     Run,
 }
 
-// Of the states 0 to 15, 0 is one to stop in, 8 one to run in, and the rest are unused.
-pub fn mode_of(state: u8) -> Mode
-    ensures { result ≡ mode_of state }
-{
-    match state {
-        0 => Mode::Stop,
-        8 => Mode::Run,
-        _ => Mode::Unused,
+// Of the states 0 to 15, 0 is one to stop in, 8 one to run in, and the rest are unused. Each number
+// has a mode, since a converter in no order may hold any.
+impl From<u8> for Mode {
+    ghost from_gives = { λ state mode. mode ≡ mode_of state };
+
+    fn from(state: u8) -> Mode {
+        match state {
+            0 => Mode::Stop,
+            8 => Mode::Run,
+            _ => Mode::Unused,
+        }
     }
 }
 
@@ -61,9 +64,10 @@ pub fn drive_for(task: Task, noted: bool, device: Phase) -> Drive
 pub fn note_for(task: Task, denier: Option<u32>, told: Option<u32>) -> Option<u32>
     ensures { result ≡ task_note task denier told }
 {
-    match (task, denier) {
-        (Task::Stopping, None) => told,
-        _ => denier,
+    if task == Task::Stopping {
+        denier.or(told)
+    } else {
+        denier
     }
 }
 

@@ -17,7 +17,7 @@ use channel::device::{QDevice, Refusal};
 use channel::phase::Phase;
 
 // Which drives a join gives.
-pub trait Rule {
+pub trait Rule: Default {
     ghost kind: { Kind };
 
     fn kind(&self) -> Kind
@@ -25,7 +25,7 @@ pub trait Rule {
 }
 
 // Both devices side by side.
-#[derive(Clone, Copy)]
+#[derive(Clone, Copy, Default)]
 pub struct Parallel;
 
 impl Rule for Parallel {
@@ -37,7 +37,7 @@ impl Rule for Parallel {
 }
 
 // The first device stops before the second, and returns after it.
-#[derive(Clone, Copy)]
+#[derive(Clone, Copy, Default)]
 pub struct Serial;
 
 impl Rule for Serial {
@@ -80,48 +80,24 @@ pub fn make_drive<D: QDevice>(device: &mut D, drive: Drive)
     }
 }
 
-// Joins two devices, and resets both.
-fn over<R: Rule, A: QDevice, B: QDevice>(rule: R, mut first: A, mut second: B) -> Join<R, A, B>
-    ensures made { Made A.QDevice.makes B.QDevice.makes rule first second result }
-    ensures holds { Holds R.Rule.kind A.QDevice.means A.QDevice.timing B.QDevice.means B.QDevice.timing first second result }
-    ensures kept { Whole R.Rule.kind A.QDevice.ordered A.QDevice.means A.QDevice.timing B.QDevice.ordered B.QDevice.means B.QDevice.timing result }
-    ensures begun { Begun (q_view (join_means A.QDevice.means B.QDevice.means result)) }
-    ensures fit { Fit (JoinOrder R.Rule.kind A.QDevice.ordered A.QDevice.means A.QDevice.timing B.QDevice.ordered B.QDevice.means B.QDevice.timing) (λ j. q_view (join_means A.QDevice.means B.QDevice.means j)) (join_time R.Rule.kind A.QDevice.means A.QDevice.timing B.QDevice.means B.QDevice.timing) result }
-{
-    first.reset();
-    second.reset();
-    Join {
-        rule,
-        phase: Phase::Stopped,
-        denier: None,
-        first,
-        second,
-    }
-}
-
-impl<A: QDevice, B: QDevice> Join<Parallel, A, B> {
-    // A distributor over two devices, which it resets. It starts at Stopped.
-    pub fn new(first: A, second: B) -> Self
+impl<R: Rule, A: QDevice, B: QDevice> Join<R, A, B> {
+    // A join over two devices, which it resets. It starts at Stopped.
+    pub fn new(mut first: A, mut second: B) -> Self
         ensures made { Made A.QDevice.makes B.QDevice.makes result.rule first second result }
-        ensures holds { Holds kinds.Distributor A.QDevice.means A.QDevice.timing B.QDevice.means B.QDevice.timing first second result }
-        ensures kept { Whole kinds.Distributor A.QDevice.ordered A.QDevice.means A.QDevice.timing B.QDevice.ordered B.QDevice.means B.QDevice.timing result }
+        ensures holds { Holds R.Rule.kind A.QDevice.means A.QDevice.timing B.QDevice.means B.QDevice.timing first second result }
+        ensures kept { Whole R.Rule.kind A.QDevice.ordered A.QDevice.means A.QDevice.timing B.QDevice.ordered B.QDevice.means B.QDevice.timing result }
         ensures begun { Begun (q_view (join_means A.QDevice.means B.QDevice.means result)) }
-        ensures fit { Fit (JoinOrder kinds.Distributor A.QDevice.ordered A.QDevice.means A.QDevice.timing B.QDevice.ordered B.QDevice.means B.QDevice.timing) (λ j. q_view (join_means A.QDevice.means B.QDevice.means j)) (join_time kinds.Distributor A.QDevice.means A.QDevice.timing B.QDevice.means B.QDevice.timing) result }
+        ensures fit { Fit (JoinOrder R.Rule.kind A.QDevice.ordered A.QDevice.means A.QDevice.timing B.QDevice.ordered B.QDevice.means B.QDevice.timing) (λ j. q_view (join_means A.QDevice.means B.QDevice.means j)) (join_time R.Rule.kind A.QDevice.means A.QDevice.timing B.QDevice.means B.QDevice.timing) result }
     {
-        over(Parallel, first, second)
-    }
-}
-
-impl<A: QDevice, B: QDevice> Join<Serial, A, B> {
-    // A sequencer over two devices, which it resets. It starts at Stopped.
-    pub fn new(first: A, second: B) -> Self
-        ensures made { Made A.QDevice.makes B.QDevice.makes result.rule first second result }
-        ensures holds { Holds kinds.Sequencer A.QDevice.means A.QDevice.timing B.QDevice.means B.QDevice.timing first second result }
-        ensures kept { Whole kinds.Sequencer A.QDevice.ordered A.QDevice.means A.QDevice.timing B.QDevice.ordered B.QDevice.means B.QDevice.timing result }
-        ensures begun { Begun (q_view (join_means A.QDevice.means B.QDevice.means result)) }
-        ensures fit { Fit (JoinOrder kinds.Sequencer A.QDevice.ordered A.QDevice.means A.QDevice.timing B.QDevice.ordered B.QDevice.means B.QDevice.timing) (λ j. q_view (join_means A.QDevice.means B.QDevice.means j)) (join_time kinds.Sequencer A.QDevice.means A.QDevice.timing B.QDevice.means B.QDevice.timing) result }
-    {
-        over(Serial, first, second)
+        first.reset();
+        second.reset();
+        Join {
+            rule: R::default(),
+            phase: Phase::Stopped,
+            denier: None,
+            first,
+            second,
+        }
     }
 }
 

@@ -1,6 +1,6 @@
 // The rules of a join: which drive each device gets, whose denier is noted, where the join goes.
 ghost use Rattle.std.specs.Prelude.{◌≡◌};
-ghost use Rattle.joins.specs.Rules.{first_drive, second_drive, lower_run, raise_stopped, raise_denied, raise_held, while_at, heard, noted_from, decided};
+ghost use Rattle.joins.specs.Rules.{first_drive, second_drive, heard, noted_from, decided};
 
 use channel::phase::Phase;
 
@@ -18,67 +18,19 @@ pub enum Drive {
     Raise,
 }
 
-// Lowers a device at Run.
-fn lower_run(at: Phase) -> Drive
-    ensures { result ≡ lower_run at }
-{
-    match at {
-        Phase::Run => Drive::Lower,
-        _ => Drive::Nothing,
-    }
-}
-
-// Raises a device at Stopped.
-fn raise_stopped(at: Phase) -> Drive
-    ensures { result ≡ raise_stopped at }
-{
-    match at {
-        Phase::Stopped => Drive::Raise,
-        _ => Drive::Nothing,
-    }
-}
-
-// Raises a device at Denied.
-fn raise_denied(at: Phase) -> Drive
-    ensures { result ≡ raise_denied at }
-{
-    match at {
-        Phase::Denied => Drive::Raise,
-        _ => Drive::Nothing,
-    }
-}
-
-// Raises a device at Stopped or Denied.
-fn raise_held(at: Phase) -> Drive
-    ensures { result ≡ raise_held at }
-{
-    match at {
-        Phase::Stopped | Phase::Denied => Drive::Raise,
-        _ => Drive::Nothing,
-    }
-}
-
-// The drive, given only while the other device stands at one phase.
-fn while_at(other: Phase, wanted: Phase, drive: Drive) -> Drive
-    ensures { result ≡ while_at other wanted drive }
-{
-    if other == wanted {
-        drive
-    } else {
-        Drive::Nothing
-    }
-}
-
-// What the first device is driven to, from the phases before the step.
+// What the first device is driven to, from the phases before the step. The five are no struct: they
+// go together in the two drives alone, since a note and a decision look at the devices after the step.
 pub fn first_drive(kind: Kind, own: Phase, noted: bool, first: Phase, second: Phase) -> Drive
     ensures { result ≡ first_drive kind own noted first second }
 {
-    match (kind, own, noted) {
-        (_, Phase::Request, false) => lower_run(first),
-        (Kind::Distributor, Phase::Request, true) => raise_held(first),
-        (Kind::Sequencer, Phase::Request, true) => while_at(second, Phase::Run, raise_held(first)),
-        (Kind::Distributor, Phase::Exit, _) => raise_stopped(first),
-        (Kind::Sequencer, Phase::Exit, _) => while_at(second, Phase::Run, raise_stopped(first)),
+    match (kind, own, noted, first, second) {
+        (_, Phase::Request, false, Phase::Run, _) => Drive::Lower,
+        (Kind::Distributor, Phase::Request, true, Phase::Stopped | Phase::Denied, _) =>
+            Drive::Raise,
+        (Kind::Sequencer, Phase::Request, true, Phase::Stopped | Phase::Denied, Phase::Run) =>
+            Drive::Raise,
+        (Kind::Distributor, Phase::Exit, _, Phase::Stopped, _) => Drive::Raise,
+        (Kind::Sequencer, Phase::Exit, _, Phase::Stopped, Phase::Run) => Drive::Raise,
         _ => Drive::Nothing,
     }
 }
@@ -87,16 +39,13 @@ pub fn first_drive(kind: Kind, own: Phase, noted: bool, first: Phase, second: Ph
 pub fn second_drive(kind: Kind, own: Phase, noted: bool, first: Phase, second: Phase) -> Drive
     ensures { result ≡ second_drive kind own noted first second }
 {
-    match (kind, own, noted) {
-        (Kind::Distributor, Phase::Request, false) => lower_run(second),
-        (Kind::Sequencer, Phase::Request, false) => while_at(
-            first,
-            Phase::Stopped,
-            lower_run(second),
-        ),
-        (Kind::Distributor, Phase::Request, true) => raise_held(second),
-        (Kind::Sequencer, Phase::Request, true) => raise_denied(second),
-        (_, Phase::Exit, _) => raise_stopped(second),
+    match (kind, own, noted, first, second) {
+        (Kind::Distributor, Phase::Request, false, _, Phase::Run) => Drive::Lower,
+        (Kind::Sequencer, Phase::Request, false, Phase::Stopped, Phase::Run) => Drive::Lower,
+        (Kind::Distributor, Phase::Request, true, _, Phase::Stopped | Phase::Denied) =>
+            Drive::Raise,
+        (Kind::Sequencer, Phase::Request, true, _, Phase::Denied) => Drive::Raise,
+        (_, Phase::Exit, _, _, Phase::Stopped) => Drive::Raise,
         _ => Drive::Nothing,
     }
 }
@@ -116,10 +65,10 @@ pub fn heard_of(at: Phase, denier: Option<u32>) -> Option<u32>
 pub fn note(own: Phase, denier: Option<u32>, first: Option<u32>, second: Option<u32>) -> Option<u32>
     ensures { result ≡ noted_from own denier first second }
 {
-    match (own, denier, first) {
-        (Phase::Request, None, Some(tag)) => Some(tag),
-        (Phase::Request, None, None) => second,
-        _ => denier,
+    if own == Phase::Request {
+        denier.or(first).or(second)
+    } else {
+        denier
     }
 }
 

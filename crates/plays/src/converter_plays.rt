@@ -11,6 +11,7 @@ mod tests {
     use leaves::timed::Timed;
     use leaves::work::Work;
     use pile::own::QCall;
+    use pile::pile::Pile;
 
     #[test]
     fn a_wake_and_a_denied_stop(rt: HostRuntime) {
@@ -82,9 +83,9 @@ mod tests {
 
     #[test]
     fn refusals_by_number(rt: HostRuntime) {
-        assert_eq!(rt; PRefusal::AskNotAtStable.number(), 40);
-        assert_eq!(rt; PRefusal::StateUnused.number(), 41);
-        assert_eq!(rt; PRefusal::DropNotAnswered.number(), 42);
+        assert_eq!(rt; u8::from(PRefusal::AskNotAtStable), 40);
+        assert_eq!(rt; u8::from(PRefusal::StateUnused), 41);
+        assert_eq!(rt; u8::from(PRefusal::DropNotAnswered), 42);
     }
 
     #[test]
@@ -164,5 +165,15 @@ mod tests {
             &[PCall::Ask(8), PCall::Step, PCall::Step, PCall::Drop],
         );
         assert_eq!(rt; (top.phase(), top.state()), (PPhase::Complete, 8));
+    }
+
+    #[test]
+    fn calls_of_a_pile_refuse_as_the_converter(rt: HostRuntime) {
+        let mut top = Converter::new(Timed::new(1, 1, 1, 0));
+        assert_eq!(rt; top.make(PCall::Drop), Err(PRefusal::DropNotAnswered));
+        assert_eq!(rt; top.make(PCall::Ask(9)), Err(PRefusal::StateUnused));
+        assert_eq!(rt; top.make(PCall::Ask(8)), Ok(()));
+        assert_eq!(rt; top.make(PCall::Ask(8)), Err(PRefusal::AskNotAtStable));
+        assert_eq!(rt; top.make(PCall::Step), Ok(()));
     }
 }

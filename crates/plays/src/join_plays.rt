@@ -8,6 +8,8 @@ mod tests {
     use leaves::timed::Timed;
     use leaves::work::Work;
     use leaves::worker::{JobRefusal, Worker};
+    use pile::own::QCall;
+    use pile::pile::Pile;
 
     #[test]
     fn both_deny_at_once(rt: HostRuntime) {
@@ -94,5 +96,14 @@ mod tests {
         assert_eq!(rt; top.phase(), Phase::Run);
         top.reset();
         assert_eq!(rt; top.phase(), Phase::Stopped);
+    }
+
+    #[test]
+    fn calls_of_a_pile_refuse_as_the_join(rt: HostRuntime) {
+        let mut top = Sequencer::new(Timed::new(1, 1, 1, 0), Timed::new(2, 1, 1, 0));
+        assert_eq!(rt; top.make(QCall::Lower), Err(Refusal::LowerNotAtRun));
+        assert_eq!(rt; top.make(QCall::Raise), Ok(()));
+        assert_eq!(rt; top.make(QCall::Raise), Err(Refusal::RaiseNotHeld));
+        assert_eq!(rt; top.make(QCall::Step), Ok(()));
     }
 }

@@ -4,6 +4,7 @@ mod tests {
     use crate::walk::{asked_to_stop, back_to_run, steps_until_moved};
     use channel::device::{QDevice, Refusal};
     use channel::phase::Phase;
+    use channel::pphase::PPhase;
     use leaves::timed::Timed;
     use leaves::work::Work;
     use leaves::worker::{JobRefusal, Worker};
@@ -24,13 +25,11 @@ mod tests {
     #[test]
     fn timed_denies_every_third(rt: HostRuntime) {
         let mut leaf = Timed::new(7, 1, 1, 3);
-        for _ in 0..2u8 {
+        let stops = (1, Phase::Stopped, None);
+        let denies = (1, Phase::Denied, Some(7));
+        for answer in [stops, stops, denies, stops, stops, denies] {
             back_to_run(&mut leaf);
-            assert_eq!(rt; asked_to_stop(&mut leaf), (1, Phase::Stopped, None));
-            back_to_run(&mut leaf);
-            assert_eq!(rt; asked_to_stop(&mut leaf), (1, Phase::Stopped, None));
-            back_to_run(&mut leaf);
-            assert_eq!(rt; asked_to_stop(&mut leaf), (1, Phase::Denied, Some(7)));
+            assert_eq!(rt; asked_to_stop(&mut leaf), answer);
         }
     }
 
@@ -90,7 +89,7 @@ mod tests {
         assert_eq!(rt; leaf.jobs(), 65535);
         assert_eq!(rt; leaf.job_for(2, 0), Err(JobRefusal::NoWorkLeaf));
         assert_eq!(rt; leaf.job_for(3, 1), Err(JobRefusal::TooMany));
-        assert_eq!(rt; JobRefusal::TooMany.number(), 23);
+        assert_eq!(rt; u8::from(JobRefusal::TooMany), 23);
         leaf.reset();
         assert_eq!(rt; leaf.jobs(), 0);
         let mut timed = Timed::new(3, 1, 1, 1);
@@ -135,7 +134,14 @@ mod tests {
             (leaf.phase(), leaf.lower(), leaf.raise()),
             (Phase::Continue, lower, raise)
         );
-        assert_eq!(rt; Refusal::LowerNotAtRun.number(), 20);
-        assert_eq!(rt; Refusal::RaiseNotHeld.number(), 21);
+        assert_eq!(rt; u8::from(Refusal::LowerNotAtRun), 20);
+        assert_eq!(rt; u8::from(Refusal::RaiseNotHeld), 21);
+    }
+
+    #[test]
+    fn phases_by_number(rt: HostRuntime) {
+        assert_eq!(rt; u8::from(Phase::Run), 0);
+        assert_eq!(rt; u8::from(Phase::Continue), 5);
+        assert_eq!(rt; u8::from(PPhase::Accept), 2);
     }
 }

@@ -3,7 +3,7 @@ use Rattle.channel.specs.declared.phase.Phase.TheVariants.{Stopped}
 use Rattle.joins.proofs.Leaves.{tags-++}
 use Rattle.joins.proofs.Shows.{join_fit, join_begun}
 use Rattle.joins.proofs.Whole.{resets}
-use Rattle.joins.proofs.join.over.Goals as goal
+use Rattle.joins.proofs.join.Join.new.Goals as goal
 
 pub returns : goal.returns
 returns g c =
@@ -12,7 +12,7 @@ returns g c =
     let a = c.reset.ensures in
     let b = c.reset-2.ensures in
     let r = resets g.R.Rule.kind g.A.QDevice.ordered ma g.A.QDevice.timing g.B.QDevice.ordered mb g.B.QDevice.timing
-    (record { rule = c.args.rule; phase = Stopped; denier = None; first = c.args.first; second = c.args.second }) _
+    (record { rule = c.default.result; phase = Stopped; denier = None; first = c.args.first; second = c.args.second }) _
     a.order b.order a.kept b.kept refl refl in
     record {
       made = record { first_reset = a.exact; second_reset = b.exact; stopped = refl; none = refl; rule_is = refl };
@@ -22,7 +22,7 @@ returns g c =
       };
       kept = r.1;
       begun = join_begun g.R.Rule.kind g.A.QDevice.ordered ma g.A.QDevice.timing g.B.QDevice.ordered mb g.B.QDevice.timing
-          (record { rule = c.args.rule; phase = Stopped; denier = None; first = c.reset.new.self; second = c.reset-2.new.self })
+          (record { rule = c.default.result; phase = Stopped; denier = None; first = c.reset.new.self; second = c.reset-2.new.self })
           refl r.0.all_stopped refl;
       fit = join_fit _ _ _ _ _ _ _ _ r.1.own;
     }
