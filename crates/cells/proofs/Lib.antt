@@ -4,3 +4,5 @@ pub mod Passes
 pub mod Same
 pub mod Calls
 pub mod Walks
+pub mod Names
+pub mod Seen

@@ -4,3 +4,4 @@
 pub mod cell;
 pub mod lines;
 pub mod rules;
+pub mod witness;

@@ -1,8 +1,10 @@
 // The lines of a tree in a slice of cells, read and written in place: the two passes of a step, and a reset.
 ghost use Rattle.std.specs.Prelude.{◌≡◌};
 ghost use Rattle.cells.specs.Flat.{body_at, put, drive_line, answer_line, stepped, reset_to};
+ghost use Rattle.cells.specs.Edges.{name_at, drive_edges, answer_edges, step_edges};
 
 use crate::cell::{Body, Cell};
+use crate::witness::{Unseen, Witness};
 
 // The device of line i; blank past the end.
 pub fn body_of(cells: &[Cell], i: usize) -> Body
@@ -24,8 +26,9 @@ pub fn put_body(cells: &mut [Cell], i: usize, body: Body)
 
 // Line i drives its first device, then its second, both by their phases before.
 #[tactic(auto, unfolding(crate::specs::Flat::drive_by, crate::specs::Flat::drive_pair))]
-pub fn drive_devices(cells: &mut [Cell], i: usize)
-    ensures { cells.new ≡ drive_line i cells.old }
+pub fn drive_devices<W: Witness>(cells: &mut [Cell], i: usize, witness: &mut W)
+    ensures cells { cells.new ≡ drive_line i cells.old }
+    ensures seen { W.saw (name_at cells.old) (drive_edges i cells.old) witness.old witness.new }
 {
     let line = body_of(cells, i);
     if let Some((a, b)) = line.devices() {
@@ -33,13 +36,16 @@ pub fn drive_devices(cells: &mut [Cell], i: usize)
         let (first, second) = line.drives(x.phase(), y.phase());
         put_body(cells, a, x.driven(first));
         put_body(cells, b, y.driven(second));
+        witness.see(cells, a, x.phase());
+        witness.see(cells, b, y.phase());
     }
 }
 
 // Line i answers, its devices having answered before it.
 #[tactic(auto, unfolding(crate::specs::Flat::answer_line))]
-pub fn answer_devices(cells: &mut [Cell], i: usize)
-    ensures { cells.new ≡ answer_line i cells.old }
+pub fn answer_devices<W: Witness>(cells: &mut [Cell], i: usize, witness: &mut W)
+    ensures cells { cells.new ≡ answer_line i cells.old }
+    ensures seen { W.saw (name_at cells.old) (answer_edges i cells.old) witness.old witness.new }
 {
     let line = body_of(cells, i);
     let answered = match line.devices() {
@@ -47,18 +53,27 @@ pub fn answer_devices(cells: &mut [Cell], i: usize)
         None => line.answered(Body::Blank, Body::Blank), // a leaf looks at no device
     };
     put_body(cells, i, answered);
+    witness.see(cells, i, line.phase());
 }
 
 // One step of the first n lines: lines from last to first drive, lines from first to last answer.
+pub fn step_seen<W: Witness>(cells: &mut [Cell], n: usize, witness: &mut W)
+    ensures cells { cells.new ≡ stepped n cells.old }
+    ensures seen { W.saw (name_at cells.old) (step_edges n cells.old) witness.old witness.new }
+{
+    for i in (0..n).rev() {
+        drive_devices(cells, i, witness);
+    }
+    for k in 0..n {
+        answer_devices(cells, k, witness);
+    }
+}
+
+// The same, with nothing that sees it.
 pub fn step_lines(cells: &mut [Cell], n: usize)
     ensures { cells.new ≡ stepped n cells.old }
 {
-    for i in (0..n).rev() {
-        drive_devices(cells, i);
-    }
-    for k in 0..n {
-        answer_devices(cells, k);
-    }
+    step_seen(cells, n, &mut Unseen);
 }
 
 // Resets the first n lines.

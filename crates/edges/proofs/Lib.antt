@@ -1,4 +1,3 @@
-pub mod Names
 pub mod Writes
 pub mod Room
 pub mod Allows

@@ -2,6 +2,7 @@
 use Rattle.std.proofs.Common.{◌≡◌, ℕ, zero, suc, ◌+◌, ◌-◌, ◌*◌, ◌<◌, ◌≤◌, Bool, true, false, cond, not, ◌&&◌, eqb, ◌⊎◌, List, [], ◌∷◌, ◌++◌, length, Some, None, codes, Option, sym, refl, ap, ◌∙◌, subst, inl, inr, arith, length-append}
 use Rattle.std.proofs.lemmas.Bool.{cases_eq, cases_lt}
 use Rattle.std.proofs.lemmas.List.{set_past}
+use Rattle.std.proofs.lemmas.List.Folds.{concat-append}
 use Rattle.channel.specs.declared.phase.Phase.{Phase}
 use Rattle.channel.specs.declared.phase.Phase.TheVariants.{Run, Request, Stopped, Exit, Denied, Continue}
 use Rattle.channel.specs.Phases.{number_of}
@@ -18,7 +19,7 @@ use Rattle.trace.proofs.Lays.{parts_long}
 use Rattle.edges.specs.Edges.{Edge, phase_at, change, drive_edges_by, drive_edges, drives_from, answers_to, step_edges}
 use Rattle.edges.specs.Lines.{name_at, edge_lines, is_denied, leaf_name, denied_lines, last_phase, step_lines}
 use Rattle.edges.specs.Room.{joins_to, Roomy}
-use Rattle.edges.proofs.Names.{cell_name_put}
+use Rattle.cells.proofs.Names.{cell_name_put}
 
 -- cells that have kept their names, and their joins
 pub record Lasting (cs ds : List Cell) : Type 0 where
@@ -153,18 +154,12 @@ denied_long tick w l h k m =
     let e : length (denied_text tick w l) ≡ length tick + 1 + length w + 8 + length l + 1 = parts_long tick (codes " ") w (codes " denied ") l in
     omega arith
 
-pub joined_more : (ls ms : List (List ℕ)) → length (joined (ls ++ ms)) ≡ length (joined ls) + length (joined ms)
-unfolding joined
-joined_more [] ms = omega arith
-joined_more (l ∷ ls) ms =
-    let a = length-append l (joined (ls ++ ms)) in
-    let b = length-append l (joined ls) in
-    let c = joined_more ls ms in
-    omega arith
+joined_more : (ls ms : List (List ℕ)) → length (joined (ls ++ ms)) ≡ length (joined ls) + length (joined ms)
+joined_more ls ms = ap length (concat-append ls ms) ∙ length-append (joined ls) (joined ms)
 
 pub lines_long : (tick : List ℕ) (names : ℕ → List ℕ) (es : List Edge) → length tick ≤ 7 → ((j : ℕ) → length (names j) ≤ 12)
     → length (joined (edge_lines tick names es)) ≤ 25 * length es
-unfolding edge_lines joined
+unfolding edge_lines
 lines_long tick names [] h k = omega arith
 lines_long tick names (e ∷ es) h k =
     let a = length-append (edge_text tick (names e.line) e.to) (joined (edge_lines tick names es)) in
@@ -177,13 +172,12 @@ leaf_short cs None k = omega arith
 leaf_short cs (Some t) k = k (t - 1)
 
 cond_few : (b : Bool) (l : List ℕ) → length l ≤ 41 → length (joined (cond b (l ∷ []) [])) ≤ 41
-unfolding joined
 cond_few true l h = let e = length-append l [] in omega arith
 cond_few false l h = omega arith
 
 -- what a step writes
 pub step_room : (tick : List ℕ) (n : ℕ) (cs : List Cell) → length tick ≤ 7 → Roomy n cs → length (joined (step_lines tick n cs)) ≤ 6391
-unfolding drives_from answers_to edge_lines joined
+unfolding drives_from answers_to edge_lines
 step_room tick zero cs h r = omega arith
 step_room tick (suc t) cs h r =
     let short : (j : ℕ) → length (name_at cs j) ≤ 12 = r.short (omega arith) in

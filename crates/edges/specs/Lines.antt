@@ -3,15 +3,12 @@ use Rattle.std.specs.Prelude.{ℕ, zero, suc, ◌-◌, Bool, true, false, cond, 
 use Rattle.channel.specs.declared.phase.Phase.{Phase}
 use Rattle.channel.specs.declared.phase.Phase.TheVariants.{Run, Request, Stopped, Exit, Denied, Continue}
 use Rattle.channel.specs.Phases.{number_of}
-use Rattle.words.specs.Names.{text_of}
 use Rattle.cells.specs.declared.cell.Cell.{Cell}
 use Rattle.cells.specs.Bodies.{body_denier}
-use Rattle.cells.specs.Flat.{at, body_at, stepped}
+use Rattle.cells.specs.Flat.{body_at, stepped}
 use Rattle.trace.specs.Texts.{edge_text, denied_text}
 use Rattle.edges.specs.Edges.{Edge, phase_at, step_edges}
-
-abbrev pub name_at : List Cell → ℕ → List ℕ
-name_at cs i = text_of (at cs i).name
+pub use Rattle.cells.specs.Edges.{name_at}
 
 -- a line for each edge, the channels having these names
 unfoldable pub edge_lines : List ℕ → (ℕ → List ℕ) → List Edge → List (List ℕ)

@@ -1,9 +1,9 @@
 -- Event lines and refusals.
-use Rattle.std.specs.Prelude.{ℕ, ◌+◌, ◌-◌, ◌*◌, cond, ◌&&◌, List, [], ◌∷◌, length, Some, None, Ok, Err, codes, Option, Result, ◌==◌, nat_le, nat_lt}
+use Rattle.std.specs.Prelude.{ℕ, cond, List, [], ◌∷◌, length, Some, None, Ok, Err, codes, Option, Result, ◌==◌}
 use Rattle.std.specs.Str.{bytes_eq}
 use Rattle.channel.specs.Calls.{refusal_number}
 use Rattle.leaves.specs.Jobs.{job_number}
-use Rattle.words.specs.Numbers.{digit, digits, value, well_led}
+use Rattle.words.specs.Numbers.{within, decimal_of}
 use Rattle.words.specs.Names.{legal, name_of}
 use Rattle.words.specs.Pieces.{words_of, word_of}
 use Rattle.events.specs.declared.event.Event.{Event}
@@ -21,17 +21,13 @@ number_told LastTick = 32
 number_told (Device r) = refusal_number r
 number_told (refusal.Job r) = job_number r
 
--- one digit more behind a number, while it stays at most 65,535
-abbrev pub shift : ℕ → ℕ → Option ℕ
-shift v c = cond (digit c) (cond (nat_lt 65535 (10 * v + (c - 48))) None (Some (10 * v + (c - 48)))) None
-
 -- digits that write a number of at most 65,535
 abbrev pub jobs_of : List ℕ → Option ℕ
-jobs_of w = cond (digits w && nat_le (value w) 65535) (Some (value w)) None
+jobs_of w = within 65535 w
 
 -- the number of 0 to 65,535 that a word writes in decimal, with no leading zero but 0 itself
 abbrev pub count_of : List ℕ → Option ℕ
-count_of w = cond (well_led w) (jobs_of w) None
+count_of w = decimal_of 65535 w
 
 -- one letter and nothing else
 abbrev pub alone : List ℕ → Event → Result Event Refusal

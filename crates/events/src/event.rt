@@ -1,7 +1,7 @@
 // The events of a bench.
 use words::name::Name;
 
-#[derive(Clone, Copy)]
+#[derive(Clone, Copy, PartialEq, Eq, Debug)]
 pub enum Event {
     Lower,
     Raise,

@@ -2,29 +2,21 @@
 ghost use Rattle.std.specs.Prelude.{◌≡◌};
 ghost use Rattle.lines.specs.Flaws.{flaw_number};
 
-#[derive(Clone, Copy, PartialEq)]
+#[derive(Clone, Copy, PartialEq, Eq, Debug)]
 pub enum Flaw {
-    UnknownKind,
-    WordCount,
-    BadName,
-    NameTaken,
-    BadNumber,
-    NoSuchLine,
-    AlreadyJoined,
+    UnknownKind = 4,
+    WordCount = 5,
+    BadName = 6,
+    NameTaken = 7,
+    BadNumber = 8,
+    NoSuchLine = 9,
+    AlreadyJoined = 10,
 }
 
-impl Flaw {
-    pub fn number(self) -> u8
-        ensures { result ≡ flaw_number self }
-    {
-        match self {
-            Flaw::UnknownKind => 4,
-            Flaw::WordCount => 5,
-            Flaw::BadName => 6,
-            Flaw::NameTaken => 7,
-            Flaw::BadNumber => 8,
-            Flaw::NoSuchLine => 9,
-            Flaw::AlreadyJoined => 10,
-        }
+impl From<Flaw> for u8 {
+    ghost from_gives = { λ flaw n. n ≡ flaw_number flaw };
+
+    fn from(flaw: Flaw) -> u8 {
+        flaw as u8
     }
 }

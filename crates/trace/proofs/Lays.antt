@@ -1,10 +1,16 @@
 -- Lines laid one behind the other.
-use Rattle.std.proofs.Common.{◌≡◌, ℕ, ◌+◌, ◌<◌, ◌≤◌, leb, List, [], ◌∷◌, ◌++◌, length, sym, refl, ap, ◌∙◌, add-zero, add_assoc, arith, length-append}
+use Rattle.std.proofs.Common.{◌≡◌, ℕ, ◌+◌, ◌<◌, ◌≤◌, leb, List, [], ◌∷◌, ◌++◌, length, get_or, take, map, sym, refl, ap, ◌∙◌, add-zero, add_assoc, arith, length-append}
+use Rattle.std.specs.Borrow.{Bor}
+use Rattle.std.specs.List.{concat, flat_map}
+use Rattle.std.proofs.lemmas.List.{take_more, take_all, flat_map_more}
+use Rattle.std.proofs.lemmas.List.Folds.{length-flat_map-take}
+use Rattle.trace.specs.declared.sheet.Sheet as declared
+use Rattle.trace.specs.Texts.{parts_line}
+use Rattle.trace.specs.Written.{written, IsSame, Adds}
 use lib.Seq.{paste, length-paste, paste-zero}
 use Rattle.std.proofs.lemmas.List.Edits.{paste-paste}
 use Rattle.std.proofs.lemmas.Bool.{cond-true, cond-false, le-leb, lt-leb}
 use Rattle.trace.specs.Sheets.{Sheet, sheet, laid, line_onto, onto, joined}
-use Rattle.trace.specs.Texts.{parts_line}
 
 -- bytes laid behind bytes just laid
 pub laid_laid : (out : List ℕ) (at : ℕ) (bs cs : List ℕ) → at ≤ length out → laid (laid out at bs) (at + length bs) cs ≡ laid out at (bs ++ cs)
@@ -54,7 +60,7 @@ line_fits out at l h = cond-true (leb (at + length l) (length out)) (sheet (laid
 -- lines that have room stand there, all of them
 pub onto_fits : (out : List ℕ) (at : ℕ) (ls : List (List ℕ)) → at + length (joined ls) ≤ length out
     → onto (sheet out at) ls ≡ sheet (laid out at (joined ls)) (at + length (joined ls))
-unfolding onto joined
+unfolding onto
 onto_fits out at [] h = λ i. sheet (paste-zero out at [] i) (sym (add-zero at) i)
 onto_fits out at (l ∷ ls) h =
     let n : length (l ++ joined ls) ≡ length l + length (joined ls) = length-append l (joined ls) in
@@ -65,17 +71,45 @@ onto_fits out at (l ∷ ls) h =
     ∙ (let e : at + length l + length (joined ls) ≡ at + length (l ++ joined ls) = omega arith in
     λ i. sheet (laid_laid out at l (joined ls) (omega arith) i) (e i)))
 
--- a line of five parts
-pub parts_long : (a b c d e : List ℕ) → length (parts_line a b c d e) ≡ length a + length b + length c + length d + length e + 1
-parts_long a b c d e = simp length-append
+-- the parts of a line, and one part more
+pub part_more : (ps : List (Bor (List ℕ))) (i : ℕ) (d : Bor (List ℕ)) → i < length ps
+    → flat_map (λ p. p.now) (take (i + 1) ps) ≡ flat_map (λ p. p.now) (take i ps) ++ (get_or ps i d).now
+part_more ps i d h = ap (flat_map (λ p. p.now)) (take_more ps i d h) ∙ sym (flat_map_more (λ p. p.now) [] (take i ps) (get_or ps i d))
 
-pub parts_laid : (out : List ℕ) (at : ℕ) (a b c d e o1 o2 o3 o4 o5 o6 : List ℕ) (p1 p2 p3 p4 p5 p6 : ℕ)
-    → at + (length a + length b + length c + length d + length e + 1) ≤ length out
-    → Wrote out at a o1 p1 → o2 ≡ laid o1 p1 b → p2 ≡ p1 + length b → o3 ≡ laid o2 p2 c → p3 ≡ p2 + length c → o4 ≡ laid o3 p3 d → p4 ≡ p3 + length d
-    → o5 ≡ laid o4 p4 e → p5 ≡ p4 + length e → o6 ≡ laid o5 p5 (10 ∷ []) → p6 ≡ p5 + 1 → sheet o6 p6 ≡ line_onto (sheet out at) (parts_line a b c d e)
-parts_laid out at a b c d e o1 o2 o3 o4 o5 o6 p1 p2 p3 p4 p5 p6 h w e2 f2 e3 f3 e4 f4 e5 f5 e6 f6 =
-    let k : at ≤ length out = omega arith in
-    let n : length (parts_line a b c d e) ≡ length a + length b + length c + length d + length e + 1 = parts_long a b c d e in
-    wrote_line out at _ o6 p6 (omega arith)
-    (wrote_more out at _ _ _ _ _ _ k (wrote_more out at _ _ _ _ _ _ k (wrote_more out at _ _ _ _ _ _ k (wrote_more out at _ _ _ _ _ _ k
-    (wrote_more out at _ _ _ _ _ _ k w e2 f2) e3 f3) e4 f4) e5 f5) e6 f6)
+pub parts_flat : (ps : List (Bor (List ℕ))) → concat (map (λ p. p.now) ps) ≡ flat_map (λ p. p.now) ps
+parts_flat [] = refl
+parts_flat (p ∷ ps) = ap (λ l. p.now ++ l) (parts_flat ps)
+
+-- what is written keeps the buffer's length
+pub wrote_long : (out : List ℕ) (at : ℕ) (bs a : List ℕ) (p : ℕ) → at + length bs ≤ length out → Wrote out at bs a p → length a ≡ length out
+wrote_long out at bs a p h w = ap length w.bytes ∙ length-paste out at bs (length bs) h (omega arith)
+
+-- how long the first parts and one more are, and that all parts are the parts
+pub part_room : (ps : List (Bor (List ℕ))) (i : ℕ) (d : Bor (List ℕ)) → i < length ps
+    → length (flat_map (λ p. p.now) (take i ps)) + length (get_or ps i d).now ≤ length (flat_map (λ p. p.now) ps)
+part_room ps i d h = length-flat_map-take (λ p. p.now) ps i d h
+
+pub parts_taken : (ps : List (Bor (List ℕ))) (i : ℕ) → length ps ≤ i → flat_map (λ p. p.now) (take i ps) ≡ flat_map (λ p. p.now) ps
+parts_taken ps i h = ap (flat_map (λ p. p.now)) (take_all i ps h)
+
+pub same_then : (s t u : declared.Sheet) → IsSame s t → IsSame t u → IsSame s u
+same_then s t u e f = record { tick = f.tick ∙ e.tick; buffer = f.buffer ∙ e.buffer }
+
+-- how long a line of five parts is
+pub parts_long : (a b c d e : List ℕ) → length (parts_line (a ∷ b ∷ c ∷ d ∷ e ∷ [])) ≡ length a + length b + length c + length d + length e + 1
+parts_long a b c d e = simp length-append (omega arith)
+
+-- lines added to a sheet
+pub adds_none : (s : declared.Sheet) → Adds s s []
+unfolding onto
+adds_none s = record { lines = refl; same = record { tick = refl; buffer = refl } }
+
+pub adds_one : (s t : declared.Sheet) (l : List ℕ) → written t ≡ line_onto (written s) l → IsSame s t → Adds s t (l ∷ [])
+unfolding onto
+adds_one s t l e same = record { lines = e; same = same }
+
+pub adds_then : (s t u : declared.Sheet) (ls ms : List (List ℕ)) → Adds s t ls → Adds t u ms → Adds s u (ls ++ ms)
+adds_then s t u ls ms a b = record {
+  lines = b.lines ∙ (ap (λ x. onto x ms) a.lines ∙ sym (onto_more (written s) ls ms));
+  same = same_then s t u a.same b.same;
+}

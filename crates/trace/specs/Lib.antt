@@ -1,3 +1,4 @@
 pub mod Numerals
 pub mod Sheets
 pub mod Texts
+pub mod Written

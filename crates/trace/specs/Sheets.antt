@@ -1,5 +1,6 @@
 -- An output buffer, and lines that are written into it one behind the other. Assumes nothing.
-use Rattle.std.specs.Prelude.{ℕ, ◌+◌, cond, List, [], ◌∷◌, ◌++◌, length, nat_le}
+use Rattle.std.specs.Prelude.{ℕ, ◌+◌, cond, List, [], ◌∷◌, length, nat_le}
+use Rattle.std.specs.List.{concat}
 use Rattle.std.proofs.Math.Seq.{paste}
 
 -- a buffer, and the place behind what is written
@@ -24,6 +25,5 @@ onto s [] = s
 onto s (l ∷ ls) = onto (line_onto s l) ls
 
 -- the bytes of lines
-unfoldable pub joined : List (List ℕ) → List ℕ
-joined [] = []
-joined (l ∷ ls) = l ++ joined ls
+abbrev pub joined : List (List ℕ) → List ℕ
+joined ls = concat ls

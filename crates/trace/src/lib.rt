@@ -2,5 +2,5 @@
 #![tactic(auto)]
 
 pub mod numeral;
-pub mod put;
+pub mod sheet;
 pub mod text;

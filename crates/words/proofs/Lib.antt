@@ -1,4 +1,4 @@
-pub mod Scans
-pub mod Cuts
-pub mod Written
 pub mod Back
+pub mod Cuts
+pub mod Decimals
+pub mod Written

@@ -1,13 +1,16 @@
 -- A word gives back what was read of it, and the words of a line give back the line. Assumes nothing.
 use Rattle.std.proofs.Common.{◌≡◌, ℕ, suc, ◌-◌, ◌<◌, ◌≤◌, min, Bool, true, false, cond, not, ◌&&◌, ◌||◌, eqb, ltb, leb, List, [], ◌∷◌, ◌++◌, length, get_or, take, replicate, Some, None, decimal, Option, sym, refl, ap, ◌∙◌, subst, sub-one, arith, rules}
+use Rattle.std.specs.List.{onto_first}
 use Rattle.std.proofs.lemmas.List.{take_all, take_at}
+use Rattle.std.proofs.lemmas.List.Splits.{join_with_byte-slice_split}
 use Rattle.std.proofs.lemmas.Bool.{and_parts, leb-true, ltb-false, eqb-true, eqb-false}
 use Rattle.std.proofs.lemmas.Str.Parse.{IsNumeralModel, numerals_by_fold}
 use Rattle.std.proofs.lemmas.Fmt.{decimal-digits_value}
-use Rattle.words.specs.Pieces.{pieces, onto, words_of, lines_of, spaced, unlines}
-use Rattle.words.specs.Numbers.{digits, value_on, value, well_led, byte_of, at_least, number_of}
+use Rattle.words.specs.Pieces.{words_of, lines_of, spaced, unlines}
+use Rattle.words.specs.Numbers.{digits, value_on, value, well_led, within, decimal_of, at_least, number_of}
 use Rattle.words.specs.Names.{letter, legal, name_of, text_of}
-use Rattle.words.proofs.Cuts.{pieces_count, lines_at}
+use Rattle.words.specs.Shorts.{room, short_of, short_text}
+use Rattle.words.proofs.Cuts.{lines_at}
 
 -- names
 
@@ -15,17 +18,21 @@ pub legal_short : (w : List ℕ) → legal w ≡ true → length w ≤ 12
 legal_short [] e = omega arith
 legal_short (c ∷ cs) e = leb-true _ _ (and_parts _ _ (and_parts (letter c) _ e).1).0
 
+-- a text that is short enough is stored whole
+pub text_short : (n : ℕ) (w : List ℕ) → length w ≤ n → n ≤ 255 → short_text (short_of n w) ≡ w
+unfolding short_of
+text_short n w h k =
+    let m : min (length w) (room n) ≡ length w = omega arith in
+    (λ i. take (m i) (take_all (room n) w (omega arith) i ++ replicate (n - m i) 0)) ∙ take_at w (replicate (n - length w) 0) (length w) refl
+
 -- a name that is stored is the word
 pub text_name : (w : List ℕ) → length w ≤ 12 → text_of (name_of w) ≡ w
-unfolding name_of
-text_name w h =
-    let m : min (length w) 12 ≡ length w = omega arith in
-    (λ i. take (m i) (take_all 12 w h i ++ replicate (12 - length w) 0)) ∙ take_at w (replicate (12 - length w) 0) (length w) refl
+text_name w h = text_short 12 w h (omega arith)
 
 -- numbers
 
 pub own : IsNumeralModel (λ ds. digits ds ≡ true) (value_on 0)
-unfolding digits value_on
+unfolding value_on
 own = numerals_by_fold _ (search rules) value_on (search rules)
 
 none≢some : {A : Type 0} {a : A} → ◌≡◌ {A = Option A} None (Some a) → ⊥
@@ -46,65 +53,49 @@ led (c ∷ cs) e = (omega arith, λ p. by (eqb c 48) (eqb-false c 48) (eqb (leng
     by true f false g p q = let z : ◌≡◌ {A = ℕ} 0 1 = cc in absurd (omega arith)
     by false f b g p q = absurd (f refl q)
 
-byte_says : (w : List ℕ) (v : ℕ) → byte_of w ≡ Some v → (digits w ≡ true) × (value w ≡ v) × (v ≤ 255)
-byte_says w v e = by (digits w) refl (leb (value w) 255) refl e
+within_says : (most : ℕ) (w : List ℕ) (v : ℕ) → within most w ≡ Some v → (digits w ≡ true) × (value w ≡ v) × (v ≤ most)
+within_says most w v e = by (digits w) refl (leb (value w) most) refl e
   where
-    by : (a : Bool) → digits w ≡ a → (b : Bool) → leb (value w) 255 ≡ b → cond (a && b) (Some (value w)) None ≡ Some v → (digits w ≡ true) × (value w ≡ v) × (v ≤ 255)
+    by : (a : Bool) → digits w ≡ a → (b : Bool) → leb (value w) most ≡ b → cond (a && b) (Some (value w)) None ≡ Some v → (digits w ≡ true) × (value w ≡ v) × (v ≤ most)
     by true p true q h = let s : value w ≡ v = cc in (p, s, omega (arith, leb-true _ _ q))
     by true p false q h = absurd (none≢some h)
     by false p b q h = absurd (none≢some h)
 
-pub number_says : (low : ℕ) (w : List ℕ) (v : ℕ) → number_of low w ≡ Some v → Writes low w v
-number_says low w v e = by (well_led w) refl e
+at_least_says : (low : ℕ) (o : Option ℕ) (v : ℕ) → at_least low o ≡ Some v → (o ≡ Some v) × (low ≤ v)
+at_least_says low None v h = absurd (none≢some h)
+at_least_says low (Some x) v h = by (ltb x low) refl h
   where
-    at : (o : Option ℕ) → byte_of w ≡ o → at_least low o ≡ Some v → (byte_of w ≡ Some v) × (low ≤ v)
-    at None p h = absurd (none≢some h)
-    at (Some x) p h = least (ltb x low) refl h
-      where
-        least : (t : Bool) → ltb x low ≡ t → cond t None (Some x) ≡ Some v → (byte_of w ≡ Some v) × (low ≤ v)
-        least true q k = absurd (none≢some k)
-        least false q k = let s : x ≡ v = cc in (p ∙ ap Some s, omega (arith, ltb-false _ _ q))
+    by : (t : Bool) → ltb x low ≡ t → cond t None (Some x) ≡ Some v → (◌≡◌ {A = Option ℕ} (Some x) (Some v)) × (low ≤ v)
+    by true q k = absurd (none≢some k)
+    by false q k = let s : x ≡ v = cc in (ap Some s, omega (arith, ltb-false _ _ q))
 
-    by : (t : Bool) → well_led w ≡ t → cond t (at_least low (byte_of w)) None ≡ Some v → Writes low w v
+pub number_says : (low : ℕ) (w : List ℕ) (v : ℕ) → number_of low w ≡ Some v → Writes low w v
+number_says low w v e = by (well_led w) refl f.0
+  where
+    f : (decimal_of 255 w ≡ Some v) × (low ≤ v)
+    f = at_least_says low (decimal_of 255 w) v e
+
+    by : (t : Bool) → well_led w ≡ t → cond t (within 255 w) None ≡ Some v → Writes low w v
     by false p h = absurd (none≢some h)
     by true p h =
-        let f = at (byte_of w) refl h in
-        let g = byte_says w v f.0 in
+        let g = within_says 255 w v h in
         let l = led w p in
         let s = g.1 in
         record { least = f.1; most = g.2; back = ap decimal (sym s) ∙ decimal-digits_value own w g.0 l.0 l.1 (omega (arith, g.2)) }
 
 -- words and lines
 
-some_word : (b : ℕ) (t : List ℕ) (P : List (List ℕ) → Type 0) → ((p : List ℕ) (ps : List (List ℕ)) → P (p ∷ ps)) → P (pieces ([] ∷ []) b t)
-some_word b t P f = by (pieces ([] ∷ []) b t) (let e = pieces_count b t in omega arith)
-  where
-    by : (ps : List (List ℕ)) → 0 < length ps → P ps
-    by [] e = absurd (omega arith)
-    by (p ∷ ps) e = f p ps
-
-spaced_onto : (x : ℕ) (p : List ℕ) (ps : List (List ℕ)) → spaced (onto x (p ∷ ps)) ≡ x ∷ spaced (p ∷ ps)
-unfolding spaced
-spaced_onto x p [] = refl
-spaced_onto x p (q ∷ ps) = refl
-
 pub spaced_words : (l : List ℕ) → spaced (words_of l) ≡ l
-unfolding pieces spaced
-spaced_words [] = refl
-spaced_words (x ∷ xs) = by (eqb x 32) (eqb-true x 32) (spaced_words xs)
-  where
-    by : (t : Bool) → (t ≡ true → x ≡ 32) → spaced (words_of xs) ≡ xs → spaced (cond t ([] ∷ words_of xs) (onto x (words_of xs))) ≡ x ∷ xs
-    by true e ih = some_word 32 xs (λ ps. spaced ([] ∷ ps) ≡ 32 ∷ spaced ps) (λ p ps. refl) ∙ (λ i. sym (e refl) i ∷ ih i)
-    by false e ih = some_word 32 xs (λ ps. spaced (onto x ps) ≡ x ∷ spaced ps) (spaced_onto x) ∙ ap (λ r. x ∷ r) ih
+spaced_words l = join_with_byte-slice_split 32 l
 
-unlines_onto : (x : ℕ) (ps : List (List ℕ)) → 0 < length ps → unlines (onto x ps) ≡ x ∷ unlines ps
+unlines_onto : (x : ℕ) (ps : List (List ℕ)) → 0 < length ps → unlines (onto_first x ps) ≡ x ∷ unlines ps
 unfolding unlines
 unlines_onto x [] h = absurd (omega arith)
 unlines_onto x (p ∷ ps) h = refl
 
 -- the lines of a text that ends in byte 10, each ended by byte 10, are the text
 pub unlines_lines : (t : List ℕ) → (0 < length t → get_or t (length t - 1) 0 ≡ 10) → unlines (lines_of t) ≡ t
-unfolding pieces unlines
+unfolding lines_of unlines
 unlines_lines [] e = refl
 unlines_lines (x ∷ []) e = by (eqb x 10) (eqb-true x 10) (eqb-false x 10)
   where
@@ -119,8 +110,8 @@ unlines_lines (x ∷ y ∷ ys) e =
     rest = lines_of (y ∷ ys)
 
     more : 0 < length rest
-    more = subst (λ ps. 0 < length ps) (sym (lines_at 10 (y ∷ ys) (omega arith))) (omega arith)
+    more = subst (λ ps. 0 < length ps) (sym (lines_at (y ∷ ys) (omega arith))) (omega arith)
 
-    by : (t : Bool) → (t ≡ true → x ≡ 10) → unlines rest ≡ y ∷ ys → unlines (cond t ([] ∷ rest) (onto x rest)) ≡ x ∷ y ∷ ys
+    by : (t : Bool) → (t ≡ true → x ≡ 10) → unlines rest ≡ y ∷ ys → unlines (cond t ([] ∷ rest) (onto_first x rest)) ≡ x ∷ y ∷ ys
     by true p ih = λ i. sym (p refl) i ∷ ih i
     by false p ih = unlines_onto x rest more ∙ ap (λ r. x ∷ r) ih

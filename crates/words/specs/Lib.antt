@@ -1,3 +1,4 @@
 pub mod Pieces
 pub mod Numbers
 pub mod Names
+pub mod Shorts

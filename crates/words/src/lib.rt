@@ -4,3 +4,4 @@
 pub mod name;
 pub mod number;
 pub mod piece;
+pub mod short;

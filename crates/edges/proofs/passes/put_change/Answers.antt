@@ -1,20 +1,14 @@
-use Rattle.std.proofs.Common.{◌≡◌, sym, ap, ◌∙◌, subst}
-use Rattle.channel.specs.Phases.{number_of}
-use Rattle.trace.specs.Sheets.{sheet, onto}
+use Rattle.std.proofs.Common.{ap, ◌∙◌, subst}
+use Rattle.trace.specs.Written.{Adds}
 use Rattle.edges.specs.Edges.{change}
 use Rattle.edges.specs.Lines.{name_at, edge_lines}
-use Rattle.edges.proofs.Writes.{change_none, change_one}
+use Rattle.edges.proofs.Writes.{moved_edges}
 use Rattle.edges.proofs.passes.put_change.Goals as goal
-
-pub returns-then-number : goal.returns-then-number
-returns-then-number c =
-    change_none _ _ _ c.args.before _ c.args.i
-    (sym c.number.ensures ∙ (c.if-number.true ∙ (c.number-2.ensures ∙ ap number_of c.phase_of-phase.ensures)))
 
 pub returns : goal.returns
 returns c =
-    subst (λ q. sheet c.put_edge.new.out c.put_edge.result ≡ onto (sheet c.args.out.now c.args.at) (edge_lines c.args.tick.now (name_at c.args.cells.now) (change c.args.before q c.args.i)))
-    c.phase_of-phase.ensures
-    (change_one _ _ _ _ (name_at c.args.cells.now) c.args.before c.phase_of-phase.result c.args.i
-    (λ e. c.if-number.false (c.number.ensures ∙ (e ∙ sym c.number-2.ensures)))
-    (c.as_bytes.ensures ∙ c.name_of-name.ensures) c.put_edge.ensures)
+    let tick = c.args.sheet.now.tick.now in
+    subst (Adds c.args.sheet.now c.put_moved.new.sheet)
+    (moved_edges tick c.as_bytes.result.now (name_at c.args.cells.now) c.args.before c.phase_of.result c.args.i (c.as_bytes.ensures ∙ c.name_of-name.ensures)
+    ∙ ap (λ q. edge_lines tick (name_at c.args.cells.now) (change c.args.before q c.args.i)) c.phase_of.ensures)
+    c.put_moved.ensures
