@@ -61,13 +61,23 @@ module _ {D : Type 0} (md : D → Means) (td : D → Timing) (l : (x : D) → In
       let sb = mode_of s in
       let ab = mode_of a in
       let f : Went md td (task_drive (task_of q sb ab) (is_some d) (md x).phase) x y =
-      subst (λ u. Went md td u x y) ew (record { mid = mid; drove = drove; undriven = idle; mid_bound = bound; stepped = stepped; ticked = ticked }) in
-      let turned = went_turned md td l _ x y f in
+      subst (λ u. Went md td u x y) ew (record {
+        mid = mid;
+        before = l x;
+        drove = drove;
+        undriven = idle;
+        mid_bound = bound;
+        between = l mid;
+        stepped = stepped;
+        ticked = ticked;
+        after = l y;
+      }) in
+      let turned = went_turned md td _ x y f in
       let es : mode_of z ≡ next_mode q r sb ab = ap mode_of i ∙ next_is q r s a in
       let ea : mode_of b ≡ ab = ap mode_of j in
       record {
         seen = rw es (rw p (rw n (ticks q sb ab d (md x) _ (md y) h turned)));
-        pace = rw (es, ea) (rw p (rw n (runs q sb ab d _ (md x) (md y).phase _ _ _ h (stays _ d _) (went_paced md td l _ x y f))));
+        pace = rw (es, ea) (rw p (rw n (runs q sb ab d _ (md x) (md y).phase _ _ _ h (stays _ d _) (went_paced md td _ x y f))));
         over = rw (es, ea) (rw p (rw n (keeps_over q sb ab d (md x) _ (md y) h turned)));
       }
 
