@@ -4,6 +4,7 @@ use Rattle.std.proofs.lemmas.Bool.Decides.{nat_tests}
 use Rattle.std.proofs.lemmas.Bool.{cond-true, cond-false, eq-eqb, ne_eqb, cases_eq}
 use Rattle.channel.specs.declared.phase.Phase.{Phase}
 use Rattle.channel.specs.declared.phase.Phase.TheVariants.{Run, Request, Stopped, Exit, Denied, Continue}
+use Rattle.channel.specs.declared.end.QEnd.{QEnd}
 use Rattle.channel.specs.declared.device.Call.TheVariants as call
 use Rattle.channel.specs.Phases.{number_of, allowed}
 use Rattle.leaves.specs.declared.timed.Timed.{Timed}
@@ -17,7 +18,7 @@ use Rattle.joins.specs.Turns.{driven}
 use Rattle.cells.specs.declared.cell.Body.{Body}
 use Rattle.cells.specs.declared.cell.Body.TheVariants as body
 use Rattle.cells.specs.declared.cell.Cell.{Cell}
-use Rattle.cells.specs.Bodies.{body_phase, driven_body, drive_timed, drive_work, answered_body, joins_line, joins_twice}
+use Rattle.cells.specs.Bodies.{body_phase, driven_end, driven_body, drive_timed, drive_work, answered_body, joins_line, joins_twice}
 use Rattle.cells.specs.Flat.{body_at, is_join, first_of, second_of, drive_by, drive_line, drive_from, answer_line, answer_to, stepped, Wired}
 use Rattle.cells.proofs.Passes.{put_same, put_other, none_driven, joins_no_other, differ, line_touched, LineDriven, line_driven, touched_wired, passed, answered}
 use Rattle.edges.specs.Edges.{Edge, phase_at, change, line_edge, drive_edges_by, drive_edges, drives_from, answers_to, step_edges}
@@ -47,24 +48,27 @@ drive_moves Raise Exit = refl
 drive_moves Raise Denied = refl
 drive_moves Raise Continue = refl
 
-timed_drives : (w : Drive) (t : Timed) → (drive_timed w t).phase ≡ driven w t.phase
+timed_drives : (w : Drive) (t : Timed) → (drive_timed w t).end.phase ≡ driven w t.end.phase
 timed_drives w t = grind arith
 
-work_drives : (w : Drive) (t : Work) → (drive_work w t).phase ≡ driven w t.phase
+work_drives : (w : Drive) (t : Work) → (drive_work w t).end.phase ≡ driven w t.end.phase
 work_drives w t = grind arith
+
+end_drives : (w : Drive) (e : QEnd) → (driven_end w e).phase ≡ driven w e.phase
+end_drives w e = grind arith
 
 pub body_drives : (w : Drive) (b : Body) → Moves (body_phase b) (body_phase (driven_body w b))
 body_drives Nothing body.Blank = refl
 body_drives Lower body.Blank = refl
 body_drives Raise body.Blank = refl
-body_drives w (body.Timed t) = subst (Moves t.phase) (sym (timed_drives w t)) (drive_moves w t.phase)
-body_drives w (body.Work t) = subst (Moves t.phase) (sym (work_drives w t)) (drive_moves w t.phase)
-body_drives w (body.Join k a b p d) = drive_moves w p
+body_drives w (body.Timed t) = subst (Moves t.end.phase) (sym (timed_drives w t)) (drive_moves w t.end.phase)
+body_drives w (body.Work t) = subst (Moves t.end.phase) (sym (work_drives w t)) (drive_moves w t.end.phase)
+body_drives w (body.Join k a b e) = subst (Moves e.phase) (sym (end_drives w e)) (drive_moves w e.phase)
 
-timed_steps : (t : Timed) → Moves t.phase (timed.after call.Step t).phase
+timed_steps : (t : Timed) → Moves t.end.phase (timed.after call.Step t).end.phase
 timed_steps t = grind (arith, nat_tests)
 
-work_steps : (t : Work) → Moves t.phase (work.after call.Step t).phase
+work_steps : (t : Work) → Moves t.end.phase (work.after call.Step t).end.phase
 work_steps t = grind (arith, nat_tests)
 
 decides : (p : Phase) (n : Bool) (x y : Phase) → Moves p (decided p n x y)
@@ -74,7 +78,7 @@ body_answers : (b x y : Body) → Moves (body_phase b) (body_phase (answered_bod
 body_answers body.Blank x y = refl
 body_answers (body.Timed t) x y = timed_steps t
 body_answers (body.Work t) x y = work_steps t
-body_answers (body.Join k a b p d) x y = decides p _ (body_phase x) (body_phase y)
+body_answers (body.Join k a b e) x y = decides e.phase _ (body_phase x) (body_phase y)
 
 -- phases are told apart by their numbers
 same_phase : (p q : Phase) → eqb (number_of p) (number_of q) ≡ true → p ≡ q

@@ -10,7 +10,7 @@ use Rattle.cells.specs.declared.cell.Body.{Body}
 use Rattle.cells.specs.declared.cell.Body.TheVariants as body
 use Rattle.cells.specs.declared.cell.Cell.{Cell}
 use Rattle.words.specs.Names.{text_of}
-use Rattle.cells.specs.Bodies.{answered_body}
+use Rattle.cells.specs.Bodies.{body_denier, answered_body}
 use Rattle.cells.specs.Flat.{at, body_at, with_body, put, is_join, first_of, second_of, drive_pair, drive_by, drive_line, drive_from, answer_line, answer_to, stepped}
 use Rattle.cells.proofs.Passes.{put_same, put_other, join_driven}
 use Rattle.trace.specs.Sheets.{joined}
@@ -55,7 +55,7 @@ join_answered : (b x y : Body) → is_join (answered_body b x y) ≡ is_join b
 join_answered body.Blank x y = refl
 join_answered (body.Timed t) x y = refl
 join_answered (body.Work t) x y = refl
-join_answered (body.Join k a b p d) x y = refl
+join_answered (body.Join k a b e) x y = refl
 
 lasting_answer : (i : ℕ) (cs : List Cell) → Lasting cs (answer_line i cs)
 unfolding answer_line
@@ -186,5 +186,5 @@ step_room tick (suc t) cs h r =
     let a = lines_long tick (name_at cs) (step_edges (suc t) cs) h short in
     let b = edges_few (suc t) cs r in
     let d : length (joined (denied_lines tick (last_phase (suc t) cs) (suc t) (stepped (suc t) cs))) ≤ 41 =
-    cond_few (not (is_denied (phase_at cs t)) && is_denied (phase_at (stepped (suc t) cs) t)) _ (denied_long tick _ _ h (later t) (leaf_short (stepped (suc t) cs) _ later)) in
+    cond_few (not (is_denied (phase_at cs t)) && is_denied (phase_at (stepped (suc t) cs) t)) _ (denied_long tick _ _ h (later t) (leaf_short (stepped (suc t) cs) (body_denier (body_at (stepped (suc t) cs) t)) later)) in
     omega arith

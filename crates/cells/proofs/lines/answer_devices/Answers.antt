@@ -15,7 +15,7 @@ answered_alone : (b x y : Body) → is_join b ≡ false → answered_body b body
 answered_alone body.Blank x y e = refl
 answered_alone (body.Timed t) x y e = refl
 answered_alone (body.Work t) x y e = refl
-answered_alone (body.Join k a b p d) x y e = let z : ◌≡◌ {A = ℕ} 0 1 = cc in absurd (omega arith)
+answered_alone (body.Join k a b p) x y e = let z : ◌≡◌ {A = ℕ} 0 1 = cc in absurd (omega arith)
 
 pub returns-clause-cells : goal.returns-clause-cells
 unfolding answer_line
