@@ -1,5 +1,5 @@
 -- A tree whose top is a join shows what is so, as the library's join does.
-use Rattle.std.proofs.Common.{◌≡◌, ℕ, zero, suc, ◌-◌, ◌<◌, Bool, true, false, List, refl, ap, ◌∙◌, subst, arith}
+use Rattle.std.proofs.Common.{◌≡◌, ℕ, zero, suc, Bool, true, false, List, Some, None, Option, sym, refl, ap, ◌∙◌, subst}
 use Rattle.std.proofs.lemmas.Bool.{both_ways}
 use Rattle.channel.specs.declared.phase.Phase.{Phase}
 use Rattle.channel.specs.declared.device.Call.{Call}
@@ -26,7 +26,9 @@ use Rattle.tree.specs.declared.state.Tree.{Tree}
 use Rattle.tree.specs.Nesting.{is_joined}
 use Rattle.tree.specs.Trees.{top, tree_nest, tree_means, tree_timing, TreeOrder, TreeMade}
 use Rattle.tree.specs.declared.stack.TreeCall.{TreeCall}
-use Rattle.tree.specs.Stack.{tree_view, TopJoins, PileOrder, tree_kind, call_makes}
+use Rattle.tree.specs.declared.stack.TreeCall.TheVariants.{Own}
+use Rattle.tree.specs.Stack.{tree_view, TopJoins, PileOrder, tree_kind}
+use Rattle.tree.specs.Tells.{top_body}
 use Rattle.tree.proofs.Tops.{in_order}
 
 -- a call leaves the top what it is
@@ -99,10 +101,12 @@ own_linked q b t u m c d k f =
       fit = tree_fit u (record { order = (k i).own; joins = own_joined q b t u m f.own.joins });
     }
 
--- a call of a tree, by what it is
-pub record CallDone (k : TreeCall) (b : Bool) (t u : Tree) : Type 0 where
-  pub exact : call_makes k b t u
-  pub linked : Fit PileOrder tree_view tree_timing t → Linked PileOrder tree_view tree_timing (tree_kind k) b t u
+-- an own call, told as the tree's
+pub own_linked_as : (k : TreeCall) (q : QCall) (a b : Bool) (t u : Tree) → k ≡ Own q → a ≡ b
+    → Linked PileOrder tree_view tree_timing (q_kind q) b t u → Linked PileOrder tree_view tree_timing (tree_kind k) a t u
+own_linked_as k q a b t u e f l =
+    subst (λ z. Linked PileOrder tree_view tree_timing (tree_kind z) a t u) (sym e)
+    (subst (λ z. Linked PileOrder tree_view tree_timing (q_kind q) z t u) (sym f) l)
 
 nest_joined : (b : Body) (f : ℕ → Nest) → is_join b ≡ is_joined (nest_of b f)
 nest_joined body.Blank f = refl
@@ -110,9 +114,12 @@ nest_joined (body.Timed t) f = refl
 nest_joined (body.Work w) f = refl
 nest_joined (body.Join k a b p d) f = refl
 
-pub top_joined : (n : ℕ) (own : Phase) (cs : List Cell) → 0 < n → is_join (body_at cs (n - 1)) ≡ is_joined (top n own cs)
+-- whether the top line's device joins two
+abbrev pub joins_of : Option Body → Bool
+joins_of None = false
+joins_of (Some b) = is_join b
+
+pub top_joined : (n : ℕ) (own : Phase) (cs : List Cell) → joins_of (top_body n cs) ≡ is_joined (top n own cs)
 unfolding nest
-top_joined zero own cs h = let z : ⊥ = omega arith in elim z [ ]
-top_joined (suc t) own cs h =
-    let e : suc t - 1 ≡ t = omega arith in
-    ap (λ k. is_join (body_at cs k)) e ∙ nest_joined (body_at cs t) (nest t cs)
+top_joined zero own cs = refl
+top_joined (suc t) own cs = nest_joined (body_at cs t) (nest t cs)

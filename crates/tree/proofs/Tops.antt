@@ -1,14 +1,16 @@
 -- The calls of a tree, from the laws of the nested tree and of the cells.
-use Rattle.std.proofs.Common.{◌≡◌, ℕ, zero, suc, ◌-◌, ◌<◌, Bool, true, false, cond, ◌⊎◌, List, None, Ok, sym, refl, ap, ◌∙◌, subst, inl, inr, arith}
+use Rattle.std.proofs.Common.{◌≡◌, ℕ, zero, suc, ◌-◌, ◌<◌, Bool, true, false, cond, ◌≤◌, ◌⊎◌, List, length, set, get_or, Some, None, Option, Ok, sym, refl, ap, ◌∙◌, subst, inl, inr, arith}
 use Rattle.std.proofs.lemmas.Bool.{both_ways}
+use Rattle.std.proofs.lemmas.List.{get_or_default}
 use Rattle.channel.specs.declared.phase.Phase.{Phase}
 use Rattle.channel.specs.declared.phase.Phase.TheVariants.{Stopped, Denied}
 use Rattle.joins.specs.declared.rules.Drive.{Drive}
 use Rattle.joins.specs.declared.rules.Drive.TheVariants.{Nothing, Lower, Raise}
+use Rattle.cells.specs.declared.cell.Body.{Body}
 use Rattle.cells.specs.declared.cell.Cell.{Cell}
 use Rattle.cells.specs.Bodies.{body_phase, body_denier, driven_body, reset_body}
 use Rattle.cells.specs.Nests.{Nest, empty, nest_means, drive_nest, turn, reset_nest}
-use Rattle.cells.specs.Flat.{body_at, put, stepped, reset_to, Wired}
+use Rattle.cells.specs.Flat.{absent, body_at, with_body, put, stepped, reset_to, Wired}
 use Rattle.cells.proofs.Calls.{top_drives, driven_wired, reset_all, nest_resets}
 use Rattle.cells.proofs.Same.{nest_phase, nest_denier, top_steps}
 use Rattle.channel.specs.declared.device.Call.{Call}
@@ -18,13 +20,38 @@ use Rattle.channel.specs.Timing.{Charged, Ticked}
 use Rattle.channel.specs.Device.{InOrder}
 use Rattle.cells.specs.Nests.{nest_timing, NestOrder, timed_leaf, work_leaf, join, nest_after}
 use Rattle.cells.proofs.Nested.{nest_in_order, drive_kept, turn_kept, reset_kept, lower_charged, raise_charged}
+use Rattle.topology.specs.declared.node.Node.{Node}
+use Rattle.topology.specs.Trees.{WellFormed}
 use Rattle.tree.specs.declared.state.Tree.{Tree}
+use Rattle.tree.specs.Tells.{top_body}
+use Rattle.tree.specs.Loads.{Laid}
+use Rattle.tree.proofs.Lays.{laid_wired, laid_reset}
 use Rattle.tree.specs.Trees.{top, top_driven, own_driven, own_stepped, lowers, raises, cells_after, own_after, lines_of, tree_nest, tree_means, tree_timing, TreeOrder, TreeMade, Driven}
-use Rattle.tree.proofs.Held.{wired_of}
+
+-- the phase and the denier of the top line's device, if there is one
+abbrev pub phase_of : Phase → Option Body → Phase
+phase_of own None = own
+phase_of own (Some b) = body_phase b
+
+abbrev pub denier_of : Option Body → Option ℕ
+denier_of None = None
+denier_of (Some b) = body_denier b
 
 pub top_is_driven : (d : Drive) (n : ℕ) (cs : List Cell) → 0 < n → put cs (n - 1) (driven_body d (body_at cs (n - 1))) ≡ top_driven d n cs
 top_is_driven d zero cs h = let z : ⊥ = omega arith in elim z [ ]
 top_is_driven d (suc t) cs h = let e : suc t - 1 ≡ t = omega arith in ap (λ k. put cs k (driven_body d (body_at cs k))) e
+
+-- a device written into a cell that is there
+pub put_by : (cs : List Cell) (i : ℕ) (x : Cell) (b : Body) → i < length cs → set cs i (with_body (get_or cs i x) b) ≡ put cs i b
+unfolding put
+put_by cs i x b h = ap (λ c. set cs i (with_body c b)) (get_or_default cs i x absent h)
+
+pub top_put : (d : Drive) (n i : ℕ) (cs : List Cell) (x y : Cell) (b : Body) → 1 ≤ n → i ≡ n - 1 → i < length cs
+    → b ≡ driven_body d (get_or cs i x).body → set cs i (with_body (get_or cs i y) b) ≡ top_driven d n cs
+top_put d n i cs x y b h e l eb =
+    put_by cs i y b l
+    ∙ (ap (put cs i) (eb ∙ ap (λ c. driven_body d c.body) (get_or_default cs i x absent l))
+    ∙ (ap (λ k. put cs k (driven_body d (body_at cs k))) e ∙ top_is_driven d n cs h))
 
 pub driven_nested : (d : Drive) (n : ℕ) (own : Phase) (cs : List Cell) → Wired n cs
     → top n (own_driven d n own) (top_driven d n cs) ≡ drive_nest d (top n own cs)
@@ -42,14 +69,14 @@ own_some d (suc t) own h = refl
 top_alike : (m n : ℕ) (p q : Phase) (ds cs : List Cell) → m ≡ n → p ≡ q → ds ≡ cs → top m p ds ≡ top n q cs
 top_alike m n p q ds cs e f g = rw (e, f, g)
 
-pub driven_made : (d : Drive) (t u : Tree) → u.bare.count ≡ t.bare.count → lines_of u ≡ top_driven d t.bare.count (lines_of t)
-    → u.own ≡ own_driven d t.bare.count t.own → u.bare.cells.ghost_name ≡ t.bare.cells.ghost_name → Driven d t u
+pub driven_made : (d : Drive) (t u : Tree) → u.count ≡ t.count → lines_of u ≡ top_driven d t.count (lines_of t)
+    → u.own ≡ own_driven d t.count t.own → u.cells.ghost_name ≡ t.cells.ghost_name → Driven d t u
 driven_made d t u e f g l = record {
   count = e;
   cells = f;
   own = g;
   lent = l;
-  nested = top_alike _ t.bare.count _ _ _ _ e g f ∙ driven_nested d t.bare.count t.own (lines_of t) (wired_of t);
+  nested = top_alike _ t.count _ _ _ _ e g f ∙ driven_nested d t.count t.own (lines_of t) t.wired;
 }
 
 -- a refused call leaves the nested tree as it is
@@ -89,14 +116,14 @@ after_nested call.Step n own cs w = stepped_nested n own cs w
 after_nested call.Restart n own cs w = reset_nested n own cs w
 
 -- what a call makes of the cells makes it of the nested tree
-pub tree_made : (c : Call) (t u : Tree) → u.bare.count ≡ t.bare.count → lines_of u ≡ cells_after c t.bare.count t.own (lines_of t)
-    → u.own ≡ own_after c t.bare.count t.own (lines_of t) → u.bare.cells.ghost_name ≡ t.bare.cells.ghost_name → TreeMade c t u
+pub tree_made : (c : Call) (t u : Tree) → u.count ≡ t.count → lines_of u ≡ cells_after c t.count t.own (lines_of t)
+    → u.own ≡ own_after c t.count t.own (lines_of t) → u.cells.ghost_name ≡ t.cells.ghost_name → TreeMade c t u
 tree_made c t u e f g l = record {
   count = e;
   cells = f;
   own = g;
   lent = l;
-  nested = top_alike _ t.bare.count _ _ _ _ e g f ∙ after_nested c t.bare.count t.own (lines_of t) (wired_of t);
+  nested = top_alike _ t.count _ _ _ _ e g f ∙ after_nested c t.count t.own (lines_of t) t.wired;
 }
 
 -- the trait's clauses, from the nested tree
@@ -157,25 +184,13 @@ module _ (t u : Tree) where
       )
 
 -- the phase and the denier of the top
-pub top_phase : (n : ℕ) (own : Phase) (cs : List Cell) → Wired n cs → 0 < n → body_phase (body_at cs (n - 1)) ≡ (nest_means (top n own cs)).phase
-top_phase zero own cs w h = let z : ⊥ = omega arith in elim z [ ]
-top_phase (suc t) own cs w h =
-    let e : suc t - 1 ≡ t = omega arith in
-    ap (λ k. body_phase (body_at cs k)) e ∙ sym (nest_phase (suc t) cs t (omega arith) (w.filled t (omega arith)))
+pub top_phase : (n : ℕ) (own : Phase) (cs : List Cell) → Wired n cs → phase_of own (top_body n cs) ≡ (nest_means (top n own cs)).phase
+top_phase zero own cs w = refl
+top_phase (suc t) own cs w = sym (nest_phase (suc t) cs t (omega arith) (w.filled t (omega arith)))
 
-pub top_denier : (n : ℕ) (own : Phase) (cs : List Cell) → Wired n cs → 0 < n → body_denier (body_at cs (n - 1)) ≡ (nest_means (top n own cs)).denier
-top_denier zero own cs w h = let z : ⊥ = omega arith in elim z [ ]
-top_denier (suc t) own cs w h =
-    let e : suc t - 1 ≡ t = omega arith in
-    ap (λ k. body_denier (body_at cs k)) e ∙ sym (nest_denier (suc t) cs t (omega arith) (w.filled t (omega arith)))
-
-pub own_phase : (n : ℕ) (own : Phase) (cs : List Cell) → n ≡ 0 → own ≡ (nest_means (top n own cs)).phase
-own_phase zero own cs e = refl
-own_phase (suc t) own cs e = let z : ⊥ = omega arith in elim z [ ]
-
-pub own_denier : (n : ℕ) (own : Phase) (cs : List Cell) → n ≡ 0 → None ≡ (nest_means (top n own cs)).denier
-own_denier zero own cs e = refl
-own_denier (suc t) own cs e = let z : ⊥ = omega arith in elim z [ ]
+pub top_denier : (n : ℕ) (own : Phase) (cs : List Cell) → Wired n cs → denier_of (top_body n cs) ≡ (nest_means (top n own cs)).denier
+top_denier zero own cs w = refl
+top_denier (suc t) own cs w = sym (nest_denier (suc t) cs t (omega arith) (w.filled t (omega arith)))
 
 cond_is : {A : Type 0} (b : Bool) (x y : A) → b ≡ true → x ≡ cond b x y
 cond_is true x y e = refl
@@ -212,3 +227,11 @@ pub fresh_reset : (n : Nest) → n ≡ reset_nest n → Reset (nest_means n) (ne
 fresh_reset n e =
     let k = reset_kept n in
     (subst (λ m. Reset (nest_means n) (nest_means m)) (sym e) k.order, subst NestOrder (sym e) k.kept)
+
+-- a tree of laid lines
+pub laid_at : (m : ℕ) (ns : List Node) (cs : List Cell) → m ≡ length ns → WellFormed ns → length ns ≤ length cs → Laid ns cs → Wired m cs
+laid_at m ns cs e w f l = subst (λ n. Wired n cs) (sym e) (laid_wired ns cs w f l)
+
+pub laid_fresh : (m : ℕ) (ns : List Node) (cs : List Cell) → m ≡ length ns → WellFormed ns → length ns ≤ length cs → Laid ns cs
+    → top m Stopped cs ≡ reset_nest (top m Stopped cs)
+laid_fresh m ns cs e w f l = fresh_nested m cs (laid_at m ns cs e w f l) (λ i h. (laid_reset ns cs f l).done i (omega arith))

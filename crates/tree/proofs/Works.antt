@@ -1,10 +1,12 @@
 -- Jobs change no phase, no denier and no step left: the nested tree means the same with them.
-use Rattle.std.proofs.Common.{◌≡◌, ℕ, zero, suc, ◌+◌, ◌-◌, ◌<◌, ◌≤◌, Bool, true, false, cond, ◌⊎◌, List, length, Some, None, Option, sym, refl, ap, ◌∙◌, subst, inl, inr, arith}
+use Rattle.std.proofs.Common.{◌≡◌, ℕ, zero, suc, ◌+◌, ◌-◌, ◌<◌, ◌≤◌, Bool, true, false, cond, ◌⊎◌, List, length, set, get_or, Some, None, Option, Result, IfSome, sym, refl, ap, ◌∙◌, subst, inl, inr, arith}
 use Rattle.std.proofs.lemmas.Bool.{cases_eq, cond-true, cond-false}
+use Rattle.std.proofs.lemmas.List.{get_or_default}
 use Rattle.std.specs.Str.{bytes_eq}
 use Rattle.channel.specs.declared.phase.Phase.{Phase}
 use Rattle.leaves.specs.declared.work.Work.{Work}
 use Rattle.leaves.specs.Work as work
+use Rattle.leaves.specs.declared.worker.JobRefusal.{JobRefusal}
 use Rattle.leaves.specs.Jobs.{room, after_add}
 use Rattle.words.specs.Names.{text_of}
 use Rattle.joins.specs.declared.rules.Kind.{Kind}
@@ -12,12 +14,13 @@ use Rattle.cells.specs.declared.cell.Body.{Body}
 use Rattle.cells.specs.declared.cell.Body.TheVariants as body
 use Rattle.cells.specs.declared.cell.Cell.{Cell}
 use Rattle.cells.specs.Nests.{Nest, work_leaf, join, nest_means, nest_timing, NestOrder}
-use Rattle.cells.specs.Flat.{at, body_at, put, nest_of, nest, Wired}
+use Rattle.cells.specs.Flat.{absent, at, body_at, with_body, put, nest_of, nest, Wired}
 use Rattle.cells.proofs.Passes.{put_same, put_other}
 use Rattle.cells.proofs.Calls.{Alike, put_wired}
 use Rattle.tree.specs.Trees.{top}
 use Rattle.tree.specs.Nesting.{is_joined}
-use Rattle.tree.specs.Jobs.{line_named, job_body, job_cells}
+use Rattle.tree.specs.Jobs.{line_named, job_body, body_answer, job_cells, job_answer}
+use Rattle.tree.proofs.Tops.{put_by}
 
 -- two nested trees that mean the same
 pub record Same (a b : Nest) : Type 0 where
@@ -136,3 +139,19 @@ tops_same n own cs w m v = by (line_named n cs w) refl
 pub trees_same : (k n : ℕ) (p own : Phase) (ds cs : List Cell) (w : List ℕ) (m : ℕ) → Wired n cs → k ≡ n → p ≡ own
     → ds ≡ job_cells (line_named n cs w) cs m → Same (top k p ds) (top n own cs)
 trees_same k n p own ds cs w m v e f g = rw (e, f, g) (tops_same n own cs w m v)
+
+pub named_within : (n : ℕ) (cs : List Cell) (w : List ℕ) (o : Option ℕ) → n ≤ length cs → o ≡ line_named n cs w → IfSome o (λ i. i < length cs)
+named_within n cs w None h e = tt
+named_within n cs w (Some i) h e = let l : i < n = named_below n cs w i (sym e) in omega arith
+
+-- a job in the cell of the line that is found
+pub job_put : (m : ℕ) (cs : List Cell) (w : List ℕ) (n i : ℕ) (x : Cell) (b : Body) → i < length cs → line_named m cs w ≡ Some i
+    → b ≡ job_body (get_or cs i x).body n → set cs i (with_body (get_or cs i x) b) ≡ job_cells (line_named m cs w) cs n
+job_put m cs w n i x b h f e =
+    put_by cs i x b h
+    ∙ (ap (put cs i) (e ∙ ap (λ c. job_body c.body n) (get_or_default cs i x absent h)) ∙ sym (ap (λ o. job_cells o cs n) f))
+
+pub job_told : (m : ℕ) (cs : List Cell) (w : List ℕ) (n i : ℕ) (x : Cell) (r : Result Unit JobRefusal) → i < length cs → line_named m cs w ≡ Some i
+    → r ≡ body_answer (get_or cs i x).body n → r ≡ job_answer (line_named m cs w) cs n
+job_told m cs w n i x r h f e =
+    e ∙ (ap (λ c. body_answer c.body n) (get_or_default cs i x absent h) ∙ sym (ap (λ o. job_answer o cs n) f))

@@ -39,8 +39,8 @@ job_answer None cs n = Err NoWorkLeaf
 job_answer (Some i) cs n = body_answer (body_at cs i) n
 
 pub record JobMade (w : List ℕ) (n : ℕ) (t u : Tree) (r : Result Unit JobRefusal) : Type 0 where
-  pub answer : r ≡ job_answer (line_named t.bare.count (lines_of t) w) (lines_of t) n
-  pub cells : lines_of u ≡ job_cells (line_named t.bare.count (lines_of t) w) (lines_of t) n
-  pub count : u.bare.count ≡ t.bare.count
+  pub answer : r ≡ job_answer (line_named t.count (lines_of t) w) (lines_of t) n
+  pub cells : lines_of u ≡ job_cells (line_named t.count (lines_of t) w) (lines_of t) n
+  pub count : u.count ≡ t.count
   pub own : u.own ≡ t.own
-  pub lent : u.bare.cells.ghost_name ≡ t.bare.cells.ghost_name
+  pub lent : u.cells.ghost_name ≡ t.cells.ghost_name

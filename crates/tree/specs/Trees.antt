@@ -55,10 +55,10 @@ own_after call.Step n own cs = own_stepped n own
 own_after call.Restart n own cs = Stopped
 
 abbrev pub lines_of : Tree → List Cell
-lines_of t = t.bare.cells.now
+lines_of t = t.cells.now
 
 abbrev pub tree_nest : Tree → Nest
-tree_nest t = top t.bare.count t.own (lines_of t)
+tree_nest t = top t.count t.own (lines_of t)
 
 abbrev pub tree_means : Tree → Means
 tree_means t = nest_means (tree_nest t)
@@ -71,16 +71,16 @@ TreeOrder t = NestOrder (tree_nest t)
 
 -- what a call makes of a tree: its cells to the last field, and the nested tree, which goes as the library's joins do
 pub record TreeMade (c : Call) (t u : Tree) : Type 0 where
-  pub count : u.bare.count ≡ t.bare.count
-  pub cells : lines_of u ≡ cells_after c t.bare.count t.own (lines_of t)
-  pub own : u.own ≡ own_after c t.bare.count t.own (lines_of t)
-  pub lent : u.bare.cells.ghost_name ≡ t.bare.cells.ghost_name
+  pub count : u.count ≡ t.count
+  pub cells : lines_of u ≡ cells_after c t.count t.own (lines_of t)
+  pub own : u.own ≡ own_after c t.count t.own (lines_of t)
+  pub lent : u.cells.ghost_name ≡ t.cells.ghost_name
   pub nested : tree_nest u ≡ nest_after c (tree_nest t)
 
 -- the top, driven
 pub record Driven (d : Drive) (t u : Tree) : Type 0 where
-  pub count : u.bare.count ≡ t.bare.count
-  pub cells : lines_of u ≡ top_driven d t.bare.count (lines_of t)
-  pub own : u.own ≡ own_driven d t.bare.count t.own
-  pub lent : u.bare.cells.ghost_name ≡ t.bare.cells.ghost_name
+  pub count : u.count ≡ t.count
+  pub cells : lines_of u ≡ top_driven d t.count (lines_of t)
+  pub own : u.own ≡ own_driven d t.count t.own
+  pub lent : u.cells.ghost_name ≡ t.cells.ghost_name
   pub nested : tree_nest u ≡ drive_nest d (tree_nest t)
