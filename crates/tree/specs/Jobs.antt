@@ -22,13 +22,13 @@ abbrev pub job_body : Body → ℕ → Body
 job_body body.Blank n = body.Blank
 job_body (body.Timed t) n = body.Timed t
 job_body (body.Work w) n = body.Work (after_add w n)
-job_body (body.Join k a b p d) n = body.Join k a b p d
+job_body (body.Join k a b q) n = body.Join k a b q
 
 abbrev pub body_answer : Body → ℕ → Result Unit JobRefusal
 body_answer body.Blank n = Err NoWorkLeaf
 body_answer (body.Timed t) n = Err NoWorkLeaf
 body_answer (body.Work w) n = add_answer w n
-body_answer (body.Join k a b p d) n = Err NoWorkLeaf
+body_answer (body.Join k a b q) n = Err NoWorkLeaf
 
 abbrev pub job_cells : Option ℕ → List Cell → ℕ → List Cell
 job_cells None cs n = cs

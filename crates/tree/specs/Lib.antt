@@ -1,4 +1,6 @@
+pub mod Top
 pub mod Trees
+pub mod Ordered
 pub mod Loads
 pub mod Jobs
 pub mod Refusals

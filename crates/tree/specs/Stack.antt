@@ -11,7 +11,7 @@ use Rattle.tree.specs.declared.stack.TreeCall.TheVariants.{Own, Job}
 use Rattle.tree.specs.declared.refusal.TreeRefusal.{TreeRefusal}
 use Rattle.tree.specs.declared.refusal.TreeRefusal.TheVariants as refused
 use Rattle.tree.specs.Nesting.{is_joined}
-use Rattle.tree.specs.Trees.{lines_of, tree_nest, tree_means, TreeOrder, TreeMade}
+use Rattle.tree.specs.Trees.{lines_of, tree_nest, tree_means, TreeMade}
 use Rattle.tree.specs.Jobs.{line_named, job_answer, JobMade}
 
 abbrev pub tree_view : Tree → View
@@ -20,10 +20,6 @@ tree_view t = q_view (tree_means t)
 -- the top line joins two lines
 abbrev pub TopJoins : Tree → Type 0
 TopJoins t = is_joined (tree_nest t) ≡ true
-
-pub record PileOrder (t : Tree) : Type 0 where
-  pub order : TreeOrder t
-  pub joins : TopJoins t
 
 abbrev pub tree_kind : TreeCall → Kind
 tree_kind (Own q) = q_kind q

@@ -12,14 +12,10 @@ use Rattle.joins.specs.declared.rules.Drive.TheVariants.{Lower, Raise}
 use Rattle.joins.specs.Turns.{driven}
 use Rattle.cells.specs.declared.cell.Cell.{Cell}
 use Rattle.cells.specs.Bodies.{driven_body}
-use Rattle.cells.specs.Nests.{Nest, empty, nest_means, nest_timing, NestOrder, empty_step, drive_nest, nest_after}
-use Rattle.cells.specs.Flat.{body_at, put, stepped, reset_to, nest}
+use Rattle.cells.specs.Nests.{Nest, nest_means, nest_timing, empty_step, drive_nest, nest_after}
+use Rattle.cells.specs.Flat.{body_at, put, stepped, reset_to}
 use Rattle.tree.specs.declared.state.Tree.{Tree}
-
--- the nested tree of n lines: that of the last line, or the empty one
-abbrev pub top : ℕ → Phase → List Cell → Nest
-top zero own cs = empty own
-top (suc t) own cs = nest (suc t) cs t
+use Rattle.tree.specs.Top.{top}
 
 -- the top line, driven
 abbrev pub top_driven : Drive → ℕ → List Cell → List Cell
@@ -65,9 +61,6 @@ tree_means t = nest_means (tree_nest t)
 
 abbrev pub tree_timing : Tree → Timing
 tree_timing t = nest_timing (tree_nest t)
-
-abbrev pub TreeOrder : Tree → Type 0
-TreeOrder t = NestOrder (tree_nest t)
 
 -- what a call makes of a tree: its cells to the last field, and the nested tree, which goes as the library's joins do
 pub record TreeMade (c : Call) (t u : Tree) : Type 0 where

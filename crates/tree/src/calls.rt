@@ -1,6 +1,7 @@
 // The calls of a tree.
 ghost use Rattle.std.specs.Prelude.{◌≡◌};
-ghost use Rattle.tree.specs.Trees.{own_stepped, tree_means, tree_timing, TreeOrder, TreeMade, Driven};
+ghost use Rattle.tree.specs.Ordered.{tree_in_order};
+ghost use Rattle.tree.specs.Trees.{own_stepped, tree_means, tree_timing, TreeMade, Driven};
 
 use crate::state::Tree;
 use cells::lines::{reset_lines, step_lines};
@@ -37,9 +38,9 @@ impl QDevice for Tree<'_> {
 
     ghost timing = { tree_timing };
 
-    ghost ordered = { TreeOrder };
-
     ghost makes = { TreeMade };
+
+    ghost in_order = { tree_in_order };
 
     fn phase(&self) -> Phase {
         self.top().map_or(self.own, |top| top.phase())

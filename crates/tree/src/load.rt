@@ -2,13 +2,11 @@
 ghost use Rattle.std.specs.Prelude.{◌≡◌, length};
 ghost use Rattle.channel.specs.declared.phase.Phase.TheVariants.{Stopped};
 ghost use Rattle.channel.specs.Calls.{Reset};
-ghost use Rattle.channel.specs.Device.{InOrder};
 ghost use Rattle.topology.specs.Format.{outcome};
 ghost use Rattle.cells.specs.Nests.{reset_nest};
-ghost use Rattle.tree.specs.Trees.{lines_of, tree_nest, tree_means, tree_timing, TreeOrder};
+ghost use Rattle.tree.specs.Trees.{lines_of, tree_nest, tree_means};
 ghost use Rattle.pile.specs.Views.{Begun};
-ghost use Rattle.pile.specs.Runs.{Fit};
-ghost use Rattle.tree.specs.Stack.{tree_view, TopJoins, PileOrder};
+ghost use Rattle.tree.specs.Stack.{tree_view};
 ghost use Rattle.tree.specs.Loads.{load_answer, LoadedAs};
 
 use crate::lay::{blank_all, lay};
@@ -25,7 +23,6 @@ impl<'a> Tree<'a> {
         ensures cells { lines_of result ≡ cells.old }
         ensures lent { result.cells.ghost_name ≡ cells.entry.ghost_name }
         ensures order { Reset (tree_means result) (tree_means result) }
-        ensures kept { InOrder TreeOrder tree_means tree_timing result }
     {
         Tree {
             cells,
@@ -44,9 +41,7 @@ impl<'a> Tree<'a> {
         ensures lent { self.new.cells.ghost_name ≡ self.old.cells.ghost_name }
         ensures fresh { tree_nest self.new ≡ reset_nest (tree_nest self.new) }
         ensures order { Reset (tree_means self.new) (tree_means self.new) }
-        ensures kept { InOrder TreeOrder tree_means tree_timing self.new }
         ensures begun { Begun (tree_view self.new) }
-        ensures fit { TopJoins self.new → Fit PileOrder tree_view tree_timing self.new }
     {
         self.own = Phase::Stopped;
         self.count = 0;

@@ -4,7 +4,7 @@ ghost use Rattle.channel.specs.declared.device.Call.TheVariants.{Restart};
 ghost use Rattle.pile.specs.Runs.{Promised};
 ghost use Rattle.tree.specs.Nesting.{is_joined};
 ghost use Rattle.tree.specs.Trees.{tree_nest, tree_timing, TreeMade};
-ghost use Rattle.tree.specs.Stack.{tree_view, PileOrder, tree_kind, call_makes, Untouched};
+ghost use Rattle.tree.specs.Stack.{tree_view, TopJoins, tree_kind, call_makes, Untouched};
 
 use crate::stack::TreeCall;
 use crate::state::Tree;
@@ -19,7 +19,7 @@ pub struct NotAPile;
 pub fn play_tree(tree: &mut Tree<'_>, calls: &[TreeCall]) -> Result<(), NotAPile>
     ensures pile { is_ok result ≡ is_joined (tree_nest tree.old) }
     ensures same { OnErr result (Untouched tree.old tree.new) }
-    ensures promised { OnOk result (Promised PileOrder tree_view tree_timing tree_kind call_makes (TreeMade Restart) calls.now tree.old tree.new) }
+    ensures promised { OnOk result (Promised TopJoins tree_view tree_timing tree_kind call_makes (TreeMade Restart) calls.now tree.old tree.new) }
 {
     if !tree.is_pile() {
         return Err(NotAPile);

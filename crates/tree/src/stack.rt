@@ -1,7 +1,8 @@
 // A tree whose top joins two lines is a pile.
 ghost use Rattle.channel.specs.declared.device.Call.TheVariants.{Restart};
 ghost use Rattle.tree.specs.Trees.{tree_timing, TreeMade};
-ghost use Rattle.tree.specs.Stack.{tree_view, PileOrder, TopJoins, tree_kind, tree_answer, call_makes};
+ghost use Rattle.tree.specs.Ordered.{tree_fits};
+ghost use Rattle.tree.specs.Stack.{tree_view, TopJoins, tree_kind, tree_answer, call_makes};
 
 use crate::refusal::TreeRefusal;
 use crate::state::Tree;
@@ -26,8 +27,6 @@ impl Pile for Tree<'_> {
 
     ghost timing = { tree_timing };
 
-    ghost ordered = { PileOrder };
-
     ghost piled = { TopJoins };
 
     ghost kind = { tree_kind };
@@ -37,6 +36,8 @@ impl Pile for Tree<'_> {
     ghost makes = { call_makes };
 
     ghost resets = { TreeMade Restart };
+
+    ghost fits = { tree_fits };
 
     fn restart(&mut self) {
         self.reset();

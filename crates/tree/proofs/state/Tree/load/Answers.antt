@@ -1,13 +1,17 @@
 use Rattle.std.proofs.Common.{arith}
 use Rattle.topology.specs.Tables.{nodes_in}
-use Rattle.tree.proofs.Piles.{tree_fit, tree_begun}
-use Rattle.tree.proofs.Tops.{in_order, laid_at, laid_fresh, fresh_reset}
+use Rattle.tree.proofs.Piles.{tree_begun}
+use Rattle.tree.proofs.Tops.{laid_at, laid_fresh, fresh_reset}
 use Rattle.tree.proofs.state.Tree.load.Goals as goal
 
 pub invariant_of-self-3 : goal.invariant_of-self-3
 invariant_of-self-3 c =
     let told = c.in_ok-plan.ensures in
-    record { wired = laid_at _ (nodes_in c.in_ok-plan.plan) _ c.len-self.ensures told.sound (omega (arith, told.fits)) c.lay.ensures }
+    let f = laid_fresh c.len-self.result (nodes_in c.in_ok-plan.plan) c.lay.new.cells c.len-self.ensures told.sound (omega (arith, told.fits)) c.lay.ensures in
+    record {
+      wired = laid_at _ (nodes_in c.in_ok-plan.plan) _ c.len-self.ensures told.sound (omega (arith, told.fits)) c.lay.ensures;
+      order = ∣ (fresh_reset _ f).1 ∣₁;
+    }
 
 pub returns-clause-fresh : goal.returns-clause-fresh
 returns-clause-fresh c =
@@ -20,20 +24,8 @@ returns-clause-order c =
     let f = laid_fresh c.len-self.result (nodes_in c.in_ok-plan.plan) c.lay.new.cells c.len-self.ensures told.sound (omega (arith, told.fits)) c.lay.ensures in
     (fresh_reset _ f).0
 
-pub returns-clause-kept : goal.returns-clause-kept
-returns-clause-kept c =
-    let told = c.in_ok-plan.ensures in
-    let f = laid_fresh c.len-self.result (nodes_in c.in_ok-plan.plan) c.lay.new.cells c.len-self.ensures told.sound (omega (arith, told.fits)) c.lay.ensures in
-    in_order _ (fresh_reset _ f).1
-
 pub returns-clause-begun : goal.returns-clause-begun
 returns-clause-begun c =
     let told = c.in_ok-plan.ensures in
     let f = laid_fresh c.len-self.result (nodes_in c.in_ok-plan.plan) c.lay.new.cells c.len-self.ensures told.sound (omega (arith, told.fits)) c.lay.ensures in
     tree_begun _ _ (fresh_reset _ f).0
-
-pub returns-clause-fit : goal.returns-clause-fit
-returns-clause-fit c =
-    let told = c.in_ok-plan.ensures in
-    let f = laid_fresh c.len-self.result (nodes_in c.in_ok-plan.plan) c.lay.new.cells c.len-self.ensures told.sound (omega (arith, told.fits)) c.lay.ensures in
-    λ j. tree_fit _ (record { order = (fresh_reset _ f).1; joins = j })
