@@ -1,4 +1,3 @@
-pub mod Held
 pub mod Tops
 pub mod Lays
 pub mod Works

@@ -1,30 +1,60 @@
 -- The calls of a tree, from the laws of the nested tree and of the cells.
-use Rattle.std.proofs.Common.{◌≡◌, ℕ, zero, suc, ◌-◌, ◌<◌, Bool, true, false, cond, ◌⊎◌, List, None, Ok, sym, refl, ap, ◌∙◌, subst, inl, inr, arith}
-use Rattle.std.proofs.lemmas.Bool.{both_ways}
+use Rattle.std.proofs.Common.{◌≡◌, ℕ, zero, suc, ◌-◌, ◌<◌, Bool, true, false, cond, ◌≤◌, ◌⊎◌, List, length, set, get_or, Some, None, Option, Ok, Err, sym, refl, ap, ◌∙◌, subst, inl, inr, arith}
+use Rattle.std.proofs.lemmas.Bool.{cond-true, cond-false}
+use Rattle.std.proofs.lemmas.List.{get_or_default}
 use Rattle.channel.specs.declared.phase.Phase.{Phase}
-use Rattle.channel.specs.declared.phase.Phase.TheVariants.{Stopped, Denied}
+use Rattle.channel.specs.declared.phase.Phase.TheVariants.{Run, Stopped, Denied}
 use Rattle.joins.specs.declared.rules.Drive.{Drive}
 use Rattle.joins.specs.declared.rules.Drive.TheVariants.{Nothing, Lower, Raise}
+use Rattle.cells.specs.declared.cell.Body.{Body}
 use Rattle.cells.specs.declared.cell.Cell.{Cell}
 use Rattle.cells.specs.Bodies.{body_phase, body_denier, driven_body, reset_body}
 use Rattle.cells.specs.Nests.{Nest, empty, nest_means, drive_nest, turn, reset_nest}
-use Rattle.cells.specs.Flat.{body_at, put, stepped, reset_to, Wired}
+use Rattle.cells.specs.Flat.{absent, body_at, with_body, put, stepped, reset_to, Wired}
 use Rattle.cells.proofs.Calls.{top_drives, driven_wired, reset_all, nest_resets}
 use Rattle.cells.proofs.Same.{nest_phase, nest_denier, top_steps}
 use Rattle.channel.specs.declared.device.Call.{Call}
 use Rattle.channel.specs.declared.device.Call.TheVariants as call
 use Rattle.channel.specs.Calls.{lower_answer, raise_answer, Lowered, Raised, Stepped, Reset}
+use Rattle.channel.specs.declared.device.Refusal.TheVariants.{LowerNotAtRun, RaiseNotHeld}
 use Rattle.channel.specs.Timing.{Charged, Ticked}
-use Rattle.channel.specs.Device.{InOrder}
 use Rattle.cells.specs.Nests.{nest_timing, NestOrder, timed_leaf, work_leaf, join, nest_after}
-use Rattle.cells.proofs.Nested.{nest_in_order, drive_kept, turn_kept, reset_kept, lower_charged, raise_charged}
+use Rattle.cells.proofs.Leaf.{timed_lower_refused, timed_raise_refused, work_lower_refused, work_raise_refused}
+use Rattle.cells.proofs.Nested.{drive_kept, turn_kept, reset_kept, lower_charged, raise_charged}
+use Rattle.topology.specs.declared.node.Node.{Node}
+use Rattle.topology.specs.Trees.{WellFormed}
 use Rattle.tree.specs.declared.state.Tree.{Tree}
-use Rattle.tree.specs.Trees.{top, top_driven, own_driven, own_stepped, lowers, raises, cells_after, own_after, lines_of, tree_nest, tree_means, tree_timing, TreeOrder, TreeMade, Driven}
-use Rattle.tree.proofs.Held.{wired_of}
+use Rattle.tree.specs.Tells.{top_body}
+use Rattle.tree.specs.Loads.{Laid}
+use Rattle.tree.proofs.Lays.{laid_wired, laid_reset}
+use Rattle.tree.specs.Top.{top}
+use Rattle.tree.specs.Ordered.{tree_order}
+use Rattle.tree.specs.Trees.{top_driven, own_driven, own_stepped, lowers, raises, cells_after, own_after, lines_of, tree_nest, tree_means, tree_timing, TreeMade, Driven}
+
+-- the phase and the denier of the top line's device, if there is one
+abbrev pub phase_of : Phase → Option Body → Phase
+phase_of own None = own
+phase_of own (Some b) = body_phase b
+
+abbrev pub denier_of : Option Body → Option ℕ
+denier_of None = None
+denier_of (Some b) = body_denier b
 
 pub top_is_driven : (d : Drive) (n : ℕ) (cs : List Cell) → 0 < n → put cs (n - 1) (driven_body d (body_at cs (n - 1))) ≡ top_driven d n cs
 top_is_driven d zero cs h = let z : ⊥ = omega arith in elim z [ ]
 top_is_driven d (suc t) cs h = let e : suc t - 1 ≡ t = omega arith in ap (λ k. put cs k (driven_body d (body_at cs k))) e
+
+-- a device written into a cell that is there
+pub put_by : (cs : List Cell) (i : ℕ) (x : Cell) (b : Body) → i < length cs → set cs i (with_body (get_or cs i x) b) ≡ put cs i b
+unfolding put
+put_by cs i x b h = ap (λ c. set cs i (with_body c b)) (get_or_default cs i x absent h)
+
+pub top_put : (d : Drive) (n i : ℕ) (cs : List Cell) (x y : Cell) (b : Body) → 1 ≤ n → i ≡ n - 1 → i < length cs
+    → b ≡ driven_body d (get_or cs i x).body → set cs i (with_body (get_or cs i y) b) ≡ top_driven d n cs
+top_put d n i cs x y b h e l eb =
+    put_by cs i y b l
+    ∙ (ap (put cs i) (eb ∙ ap (λ c. driven_body d c.body) (get_or_default cs i x absent l))
+    ∙ (ap (λ k. put cs k (driven_body d (body_at cs k))) e ∙ top_is_driven d n cs h))
 
 pub driven_nested : (d : Drive) (n : ℕ) (own : Phase) (cs : List Cell) → Wired n cs
     → top n (own_driven d n own) (top_driven d n cs) ≡ drive_nest d (top n own cs)
@@ -42,28 +72,28 @@ own_some d (suc t) own h = refl
 top_alike : (m n : ℕ) (p q : Phase) (ds cs : List Cell) → m ≡ n → p ≡ q → ds ≡ cs → top m p ds ≡ top n q cs
 top_alike m n p q ds cs e f g = rw (e, f, g)
 
-pub driven_made : (d : Drive) (t u : Tree) → u.bare.count ≡ t.bare.count → lines_of u ≡ top_driven d t.bare.count (lines_of t)
-    → u.own ≡ own_driven d t.bare.count t.own → u.bare.cells.ghost_name ≡ t.bare.cells.ghost_name → Driven d t u
+pub driven_made : (d : Drive) (t u : Tree) → u.count ≡ t.count → lines_of u ≡ top_driven d t.count (lines_of t)
+    → u.own ≡ own_driven d t.count t.own → u.cells.ghost_name ≡ t.cells.ghost_name → Driven d t u
 driven_made d t u e f g l = record {
   count = e;
   cells = f;
   own = g;
   lent = l;
-  nested = top_alike _ t.bare.count _ _ _ _ e g f ∙ driven_nested d t.bare.count t.own (lines_of t) (wired_of t);
+  nested = top_alike _ t.count _ _ _ _ e g f ∙ driven_nested d t.count t.own (lines_of t) t.wired;
 }
 
 -- a refused call leaves the nested tree as it is
 lower_refused : (t : Nest) → lowers t ≡ false → drive_nest Lower t ≡ t
 lower_refused (empty p) e = grind arith
-lower_refused (timed_leaf t) e = grind arith
-lower_refused (work_leaf w) e = grind arith
-lower_refused (join k p d a b) e = grind arith
+lower_refused (timed_leaf t) e = ap timed_leaf (timed_lower_refused t e)
+lower_refused (work_leaf w) e = ap work_leaf (work_lower_refused w e)
+lower_refused (join k q a b) e = grind arith
 
 raise_refused : (t : Nest) → raises t ≡ false → drive_nest Raise t ≡ t
 raise_refused (empty p) e = grind arith
-raise_refused (timed_leaf t) e = grind arith
-raise_refused (work_leaf w) e = grind arith
-raise_refused (join k p d a b) e = grind arith
+raise_refused (timed_leaf t) e = ap timed_leaf (timed_raise_refused t e)
+raise_refused (work_leaf w) e = ap work_leaf (work_raise_refused w e)
+raise_refused (join k q a b) e = grind arith
 
 stepped_nested : (n : ℕ) (own : Phase) (cs : List Cell) → Wired n cs → top n (own_stepped n own) (stepped n cs) ≡ turn Nothing (top n own cs)
 stepped_nested zero own cs w = refl
@@ -89,36 +119,23 @@ after_nested call.Step n own cs w = stepped_nested n own cs w
 after_nested call.Restart n own cs w = reset_nested n own cs w
 
 -- what a call makes of the cells makes it of the nested tree
-pub tree_made : (c : Call) (t u : Tree) → u.bare.count ≡ t.bare.count → lines_of u ≡ cells_after c t.bare.count t.own (lines_of t)
-    → u.own ≡ own_after c t.bare.count t.own (lines_of t) → u.bare.cells.ghost_name ≡ t.bare.cells.ghost_name → TreeMade c t u
+pub tree_made : (c : Call) (t u : Tree) → u.count ≡ t.count → lines_of u ≡ cells_after c t.count t.own (lines_of t)
+    → u.own ≡ own_after c t.count t.own (lines_of t) → u.cells.ghost_name ≡ t.cells.ghost_name → TreeMade c t u
 tree_made c t u e f g l = record {
   count = e;
   cells = f;
   own = g;
   lent = l;
-  nested = top_alike _ t.bare.count _ _ _ _ e g f ∙ after_nested c t.bare.count t.own (lines_of t) (wired_of t);
+  nested = top_alike _ t.count _ _ _ _ e g f ∙ after_nested c t.count t.own (lines_of t) t.wired;
 }
 
 -- the trait's clauses, from the nested tree
-pub in_order : (t : Tree) → TreeOrder t → InOrder TreeOrder tree_means tree_timing t
-in_order t o = let i = nest_in_order (tree_nest t) o in record { own = o; sound = i.sound; timely = i.timely }
-
 module _ (t u : Tree) where
-  pub lower_order : TreeMade call.Lower t u → InOrder TreeOrder tree_means tree_timing t
-      → Lowered (tree_means t) (tree_means u) × InOrder TreeOrder tree_means tree_timing u
-  lower_order m o =
-      let k = drive_kept Lower (tree_nest t) o.own in (
-        subst (λ n. Lowered (tree_means t) (nest_means n)) (sym m.nested) k.drove,
-        in_order u (subst NestOrder (sym m.nested) k.kept),
-      )
+  pub lower_order : TreeMade call.Lower t u → Lowered (tree_means t) (tree_means u)
+  lower_order m = subst (λ n. Lowered (tree_means t) (nest_means n)) (sym m.nested) (drive_kept Lower (tree_nest t) (tree_order t)).drove
 
-  pub raise_order : TreeMade call.Raise t u → InOrder TreeOrder tree_means tree_timing t
-      → Raised (tree_means t) (tree_means u) × InOrder TreeOrder tree_means tree_timing u
-  raise_order m o =
-      let k = drive_kept Raise (tree_nest t) o.own in (
-        subst (λ n. Raised (tree_means t) (nest_means n)) (sym m.nested) k.drove,
-        in_order u (subst NestOrder (sym m.nested) k.kept),
-      )
+  pub raise_order : TreeMade call.Raise t u → Raised (tree_means t) (tree_means u)
+  raise_order m = subst (λ n. Raised (tree_means t) (nest_means n)) (sym m.nested) (drive_kept Raise (tree_nest t) (tree_order t)).drove
 
   pub lower_pace : TreeMade call.Lower t u → Charged (lower_answer (tree_means t).phase) (tree_timing t) (tree_timing u)
   lower_pace m = subst (λ n. Charged (lower_answer (tree_means t).phase) (tree_timing t) (nest_timing n)) (sym m.nested) (lower_charged (tree_nest t))
@@ -131,70 +148,83 @@ module _ (t u : Tree) where
   undriven (empty p) = refl
   undriven (timed_leaf l) = refl
   undriven (work_leaf l) = refl
-  undriven (join k p d a b) = refl
+  undriven (join k q a b) = refl
 
-  pub step_order : TreeMade call.Step t u → InOrder TreeOrder tree_means tree_timing t
-      → Stepped (tree_means t) (tree_means u)
-      × Ticked (tree_means t).phase (tree_means u).phase (tree_timing t) (tree_timing u)
-      × InOrder TreeOrder tree_means tree_timing u
-  step_order m o =
-      let k = turn_kept Nothing (tree_nest t) o.own in
+  pub step_order : TreeMade call.Step t u
+      → Stepped (tree_means t) (tree_means u) × Ticked (tree_means t).phase (tree_means u).phase (tree_timing t) (tree_timing u)
+  step_order m =
+      let k = turn_kept Nothing (tree_nest t) (tree_order t) in
       let e = undriven (tree_nest t) in (
         subst (λ n. Stepped (tree_means t) (nest_means n)) (sym m.nested)
             (subst (λ n. Stepped (nest_means n) (nest_means (turn Nothing (tree_nest t)))) e k.stepped),
         subst (λ n. Ticked (tree_means t).phase (nest_means n).phase (tree_timing t) (nest_timing n)) (sym m.nested)
             (subst (λ n. Ticked (nest_means n).phase (nest_means (turn Nothing (tree_nest t))).phase (nest_timing n) (nest_timing (turn Nothing (tree_nest t)))) e k.ticked),
-        in_order u (subst NestOrder (sym m.nested) k.kept),
       )
 
-  pub reset_order : TreeMade call.Restart t u
-      → Reset (tree_means t) (tree_means u) × ((tree_timing u).bound ≡ (tree_timing t).bound) × InOrder TreeOrder tree_means tree_timing u
+  pub reset_order : TreeMade call.Restart t u → Reset (tree_means t) (tree_means u) × ((tree_timing u).bound ≡ (tree_timing t).bound)
   reset_order m =
       let k = reset_kept (tree_nest t) in (
         subst (λ n. Reset (tree_means t) (nest_means n)) (sym m.nested) k.order,
         subst (λ n. (nest_timing n).bound ≡ (tree_timing t).bound) (sym m.nested) k.same_bound,
-        in_order u (subst NestOrder (sym m.nested) k.kept),
       )
 
+-- the order that the type holds, after each call
+pub driven_order : (d : Drive) (n : ℕ) (own : Phase) (cs : List Cell) → Wired n cs → NestOrder (top n own cs)
+    → NestOrder (top n (own_driven d n own) (top_driven d n cs))
+driven_order d n own cs w o = subst NestOrder (sym (driven_nested d n own cs w)) (drive_kept d (top n own cs) o).kept
+
+pub own_order : (n : ℕ) (own : Phase) (cs : List Cell) → NestOrder (top n own cs) → NestOrder (top n (own_stepped n own) cs)
+own_order zero own cs o = (turn_kept Nothing (empty own) o).kept
+own_order (suc t) own cs o = o
+
+pub rest_order : (n : ℕ) (own : Phase) (cs : List Cell) → NestOrder (top n own cs) → NestOrder (top n Stopped cs)
+rest_order zero own cs o = tt
+rest_order (suc t) own cs o = o
+
+pub stepped_order : (n : ℕ) (own : Phase) (cs : List Cell) → Wired n cs → NestOrder (top n own cs)
+    → NestOrder (top n (own_stepped n own) (stepped n cs))
+stepped_order n own cs w o = subst NestOrder (sym (stepped_nested n own cs w)) (turn_kept Nothing (top n own cs) o).kept
+
+pub reset_ordered : (n : ℕ) (own : Phase) (cs : List Cell) → Wired n cs → NestOrder (top n Stopped (reset_to n cs))
+reset_ordered n own cs w = subst NestOrder (sym (reset_nested n own cs w)) (reset_kept (top n own cs)).kept
+
 -- the phase and the denier of the top
-pub top_phase : (n : ℕ) (own : Phase) (cs : List Cell) → Wired n cs → 0 < n → body_phase (body_at cs (n - 1)) ≡ (nest_means (top n own cs)).phase
-top_phase zero own cs w h = let z : ⊥ = omega arith in elim z [ ]
-top_phase (suc t) own cs w h =
-    let e : suc t - 1 ≡ t = omega arith in
-    ap (λ k. body_phase (body_at cs k)) e ∙ sym (nest_phase (suc t) cs t (omega arith) (w.filled t (omega arith)))
+pub top_phase : (n : ℕ) (own : Phase) (cs : List Cell) → Wired n cs → phase_of own (top_body n cs) ≡ (nest_means (top n own cs)).phase
+top_phase zero own cs w = refl
+top_phase (suc t) own cs w = sym (nest_phase (suc t) cs t (omega arith) (w.filled t (omega arith)))
 
-pub top_denier : (n : ℕ) (own : Phase) (cs : List Cell) → Wired n cs → 0 < n → body_denier (body_at cs (n - 1)) ≡ (nest_means (top n own cs)).denier
-top_denier zero own cs w h = let z : ⊥ = omega arith in elim z [ ]
-top_denier (suc t) own cs w h =
-    let e : suc t - 1 ≡ t = omega arith in
-    ap (λ k. body_denier (body_at cs k)) e ∙ sym (nest_denier (suc t) cs t (omega arith) (w.filled t (omega arith)))
+pub top_denier : (n : ℕ) (own : Phase) (cs : List Cell) → Wired n cs → denier_of (top_body n cs) ≡ (nest_means (top n own cs)).denier
+top_denier zero own cs w = refl
+top_denier (suc t) own cs w = sym (nest_denier (suc t) cs t (omega arith) (w.filled t (omega arith)))
 
-pub own_phase : (n : ℕ) (own : Phase) (cs : List Cell) → n ≡ 0 → own ≡ (nest_means (top n own cs)).phase
-own_phase zero own cs e = refl
-own_phase (suc t) own cs e = let z : ⊥ = omega arith in elim z [ ]
+-- a refused one leaves all as it is
+pub lower_stays : (t : Tree) → lowers (tree_nest t) ≡ false → TreeMade call.Lower t t
+lower_stays t e = tree_made call.Lower t t refl (sym (cond-false (lowers (tree_nest t)) _ _ e)) (sym (cond-false (lowers (tree_nest t)) _ _ e)) refl
 
-pub own_denier : (n : ℕ) (own : Phase) (cs : List Cell) → n ≡ 0 → None ≡ (nest_means (top n own cs)).denier
-own_denier zero own cs e = refl
-own_denier (suc t) own cs e = let z : ⊥ = omega arith in elim z [ ]
-
-cond_is : {A : Type 0} (b : Bool) (x y : A) → b ≡ true → x ≡ cond b x y
-cond_is true x y e = refl
-cond_is false x y e = let z : ⊥ = both_ways false refl e in elim z [ ]
+pub raise_stays : (t : Tree) → raises (tree_nest t) ≡ false → TreeMade call.Raise t t
+raise_stays t e = tree_made call.Raise t t refl (sym (cond-false (raises (tree_nest t)) _ _ e)) (sym (cond-false (raises (tree_nest t)) _ _ e)) refl
 
 -- an accepted lower or raise is a drive of the top
 pub lower_made : (t u : Tree) → lowers (tree_nest t) ≡ true → Driven Lower t u → TreeMade call.Lower t u
 lower_made t u e d =
-    tree_made call.Lower t u d.count (d.cells ∙ cond_is (lowers (tree_nest t)) _ _ e) (d.own ∙ cond_is (lowers (tree_nest t)) _ _ e) d.lent
+    tree_made call.Lower t u d.count (d.cells ∙ sym (cond-true (lowers (tree_nest t)) _ _ e)) (d.own ∙ sym (cond-true (lowers (tree_nest t)) _ _ e)) d.lent
 
 pub raise_made : (t u : Tree) → raises (tree_nest t) ≡ true → Driven Raise t u → TreeMade call.Raise t u
 raise_made t u e d =
-    tree_made call.Raise t u d.count (d.cells ∙ cond_is (raises (tree_nest t)) _ _ e) (d.own ∙ cond_is (raises (tree_nest t)) _ _ e) d.lent
+    tree_made call.Raise t u d.count (d.cells ∙ sym (cond-true (raises (tree_nest t)) _ _ e)) (d.own ∙ sym (cond-true (raises (tree_nest t)) _ _ e)) d.lent
 
 pub lower_bound : (t u : Tree) → TreeMade call.Lower t u → lower_answer (tree_means t).phase ≡ Ok tt → (tree_timing u).bound ≡ (tree_timing t).bound
 lower_bound t u m e = subst (λ r. Charged r (tree_timing t) (tree_timing u)) e (lower_pace t u m)
 
 pub raise_bound : (t u : Tree) → TreeMade call.Raise t u → raise_answer (tree_means t).phase ≡ Ok tt → (tree_timing u).bound ≡ (tree_timing t).bound
 raise_bound t u m e = subst (λ r. Charged r (tree_timing t) (tree_timing u)) e (raise_pace t u m)
+
+-- lower is accepted at Run
+pub lower_err : (p q : Phase) → p ≡ q → (p ≡ Run → ⊥) → lower_answer q ≡ Err LowerNotAtRun
+lower_err p q e n = grind arith
+
+pub raise_err : (p q : Phase) → p ≡ q → (p ≡ Stopped → ⊥) → (p ≡ Denied → ⊥) → raise_answer q ≡ Err RaiseNotHeld
+raise_err p q e n m = grind arith
 
 -- raise is accepted at Stopped and at Denied
 pub raise_ok : (p q : Phase) → p ≡ q → (p ≡ Stopped) ⊎ (p ≡ Denied) → raise_answer q ≡ Ok tt
@@ -212,3 +242,11 @@ pub fresh_reset : (n : Nest) → n ≡ reset_nest n → Reset (nest_means n) (ne
 fresh_reset n e =
     let k = reset_kept n in
     (subst (λ m. Reset (nest_means n) (nest_means m)) (sym e) k.order, subst NestOrder (sym e) k.kept)
+
+-- a tree of laid lines
+pub laid_at : (m : ℕ) (ns : List Node) (cs : List Cell) → m ≡ length ns → WellFormed ns → length ns ≤ length cs → Laid ns cs → Wired m cs
+laid_at m ns cs e w f l = subst (λ n. Wired n cs) (sym e) (laid_wired ns cs w f l)
+
+pub laid_fresh : (m : ℕ) (ns : List Node) (cs : List Cell) → m ≡ length ns → WellFormed ns → length ns ≤ length cs → Laid ns cs
+    → top m Stopped cs ≡ reset_nest (top m Stopped cs)
+laid_fresh m ns cs e w f l = fresh_nested m cs (laid_at m ns cs e w f l) (λ i h. (laid_reset ns cs f l).done i (omega arith))

@@ -1,10 +1,13 @@
 -- Jobs change no phase, no denier and no step left: the nested tree means the same with them.
-use Rattle.std.proofs.Common.{◌≡◌, ℕ, zero, suc, ◌+◌, ◌-◌, ◌<◌, ◌≤◌, Bool, true, false, cond, ◌⊎◌, List, length, Some, None, Option, sym, refl, ap, ◌∙◌, subst, inl, inr, arith}
+use Rattle.std.proofs.Common.{◌≡◌, ℕ, zero, suc, ◌+◌, ◌-◌, ◌<◌, ◌≤◌, Bool, true, false, cond, ◌⊎◌, List, length, set, get_or, Some, None, Option, Result, IfSome, sym, refl, ap, ◌∙◌, subst, inl, inr, arith}
 use Rattle.std.proofs.lemmas.Bool.{cases_eq, cond-true, cond-false}
+use Rattle.std.proofs.lemmas.List.{get_or_default}
 use Rattle.std.specs.Str.{bytes_eq}
 use Rattle.channel.specs.declared.phase.Phase.{Phase}
+use Rattle.channel.specs.declared.end.QEnd.{QEnd}
 use Rattle.leaves.specs.declared.work.Work.{Work}
 use Rattle.leaves.specs.Work as work
+use Rattle.leaves.specs.declared.worker.JobRefusal.{JobRefusal}
 use Rattle.leaves.specs.Jobs.{room, after_add}
 use Rattle.words.specs.Names.{text_of}
 use Rattle.joins.specs.declared.rules.Kind.{Kind}
@@ -12,12 +15,13 @@ use Rattle.cells.specs.declared.cell.Body.{Body}
 use Rattle.cells.specs.declared.cell.Body.TheVariants as body
 use Rattle.cells.specs.declared.cell.Cell.{Cell}
 use Rattle.cells.specs.Nests.{Nest, work_leaf, join, nest_means, nest_timing, NestOrder}
-use Rattle.cells.specs.Flat.{at, body_at, put, nest_of, nest, Wired}
+use Rattle.cells.specs.Flat.{absent, at, body_at, with_body, put, nest_of, nest, Wired}
 use Rattle.cells.proofs.Passes.{put_same, put_other}
 use Rattle.cells.proofs.Calls.{Alike, put_wired}
-use Rattle.tree.specs.Trees.{top}
+use Rattle.tree.specs.Top.{top}
 use Rattle.tree.specs.Nesting.{is_joined}
-use Rattle.tree.specs.Jobs.{line_named, job_body, job_cells}
+use Rattle.tree.specs.Jobs.{line_named, job_body, body_answer, job_cells, job_answer}
+use Rattle.tree.proofs.Tops.{put_by}
 
 -- two nested trees that mean the same
 pub record Same (a b : Nest) : Type 0 where
@@ -29,8 +33,8 @@ pub record Same (a b : Nest) : Type 0 where
 same_self : (a : Nest) → Same a a
 same_self a = record { means = refl; timing = refl; order = λ o. o; joins = refl }
 
-same_join : (k : Kind) (p : Phase) (d : Option ℕ) (a b x y : Nest) → Same a x → Same b y → Same (join k p d a b) (join k p d x y)
-same_join k p d a b x y s t = record {
+same_join : (k : Kind) (q : QEnd) (a b x y : Nest) → Same a x → Same b y → Same (join k q a b) (join k q x y)
+same_join k q a b x y s t = record {
   means = rw (s.means, t.means);
   timing = rw (s.means, t.means, s.timing, t.timing);
   order = λ o. (s.order o.0, t.order o.1, rw (s.means, t.means) o.2, rw (s.means, t.means) o.3);
@@ -40,7 +44,7 @@ same_join k p d a b x y s t = record {
 work_same : (w : Work) (n : ℕ) → Same (work_leaf (after_add w n)) (work_leaf w)
 work_same w n = by (room w n) refl
   where
-    by : (b : Bool) → room w n ≡ b → Same (work_leaf (cond b (work.counts w (w.jobs + n) w.done) w)) (work_leaf w)
+    by : (b : Bool) → room w n ≡ b → Same (work_leaf (cond b (work.turned w (w.jobs + n) w.done w.end w.told) w)) (work_leaf w)
     by true e = record { means = refl; timing = grind arith; order = λ o. o; joins = refl }
     by false e = same_self (work_leaf w)
 
@@ -52,13 +56,13 @@ line_same : (c : Body) (f g : ℕ → Nest) → ((k : ℕ) → Same (f k) (g k))
 line_same body.Blank f g s = same_self _
 line_same (body.Timed t) f g s = same_self _
 line_same (body.Work w) f g s = same_self _
-line_same (body.Join k a b p d) f g s = same_join k p d _ _ _ _ (s a) (s b)
+line_same (body.Join k a b q) f g s = same_join k q _ _ _ _ (s a) (s b)
 
 job_same : (c : Body) (n : ℕ) (f g : ℕ → Nest) → ((k : ℕ) → Same (f k) (g k)) → Same (nest_of (job_body c n) f) (nest_of c g)
 job_same body.Blank n f g s = same_self _
 job_same (body.Timed t) n f g s = same_self _
 job_same (body.Work w) n f g s = work_same w n
-job_same (body.Join k a b p d) n f g s = same_join k p d _ _ _ _ (s a) (s b)
+job_same (body.Join k a b q) n f g s = same_join k q _ _ _ _ (s a) (s b)
 
 pub nest_same : (f i : ℕ) (cs ds : List Cell) → ((j : ℕ) → More (body_at ds j) (body_at cs j)) → Same (nest f ds i) (nest f cs i)
 unfolding nest
@@ -84,7 +88,7 @@ job_alike : (b : Body) (n : ℕ) → Alike (job_body b n) b
 job_alike body.Blank n = record { joins = λ k. refl; twice = refl; blank = refl }
 job_alike (body.Timed t) n = record { joins = λ k. refl; twice = refl; blank = refl }
 job_alike (body.Work w) n = record { joins = λ k. refl; twice = refl; blank = refl }
-job_alike (body.Join k a b p d) n = record { joins = λ k. refl; twice = refl; blank = refl }
+job_alike (body.Join k a b q) n = record { joins = λ k. refl; twice = refl; blank = refl }
 
 pub job_wired : (n i m : ℕ) (cs : List Cell) → i < n → Wired n cs → Wired n (put cs i (job_body (body_at cs i) m))
 job_wired n i m cs h w = put_wired n i cs _ h (job_alike (body_at cs i) m) w
@@ -136,3 +140,19 @@ tops_same n own cs w m v = by (line_named n cs w) refl
 pub trees_same : (k n : ℕ) (p own : Phase) (ds cs : List Cell) (w : List ℕ) (m : ℕ) → Wired n cs → k ≡ n → p ≡ own
     → ds ≡ job_cells (line_named n cs w) cs m → Same (top k p ds) (top n own cs)
 trees_same k n p own ds cs w m v e f g = rw (e, f, g) (tops_same n own cs w m v)
+
+pub named_within : (n : ℕ) (cs : List Cell) (w : List ℕ) (o : Option ℕ) → n ≤ length cs → o ≡ line_named n cs w → IfSome o (λ i. i < length cs)
+named_within n cs w None h e = tt
+named_within n cs w (Some i) h e = let l : i < n = named_below n cs w i (sym e) in omega arith
+
+-- a job in the cell of the line that is found
+pub job_put : (m : ℕ) (cs : List Cell) (w : List ℕ) (n i : ℕ) (x : Cell) (b : Body) → i < length cs → line_named m cs w ≡ Some i
+    → b ≡ job_body (get_or cs i x).body n → set cs i (with_body (get_or cs i x) b) ≡ job_cells (line_named m cs w) cs n
+job_put m cs w n i x b h f e =
+    put_by cs i x b h
+    ∙ (ap (put cs i) (e ∙ ap (λ c. job_body c.body n) (get_or_default cs i x absent h)) ∙ sym (ap (λ o. job_cells o cs n) f))
+
+pub job_told : (m : ℕ) (cs : List Cell) (w : List ℕ) (n i : ℕ) (x : Cell) (r : Result Unit JobRefusal) → i < length cs → line_named m cs w ≡ Some i
+    → r ≡ body_answer (get_or cs i x).body n → r ≡ job_answer (line_named m cs w) cs n
+job_told m cs w n i x r h f e =
+    e ∙ (ap (λ c. body_answer c.body n) (get_or_default cs i x absent h) ∙ sym (ap (λ o. job_answer o cs n) f))

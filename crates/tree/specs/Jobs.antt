@@ -22,13 +22,13 @@ abbrev pub job_body : Body → ℕ → Body
 job_body body.Blank n = body.Blank
 job_body (body.Timed t) n = body.Timed t
 job_body (body.Work w) n = body.Work (after_add w n)
-job_body (body.Join k a b p d) n = body.Join k a b p d
+job_body (body.Join k a b q) n = body.Join k a b q
 
 abbrev pub body_answer : Body → ℕ → Result Unit JobRefusal
 body_answer body.Blank n = Err NoWorkLeaf
 body_answer (body.Timed t) n = Err NoWorkLeaf
 body_answer (body.Work w) n = add_answer w n
-body_answer (body.Join k a b p d) n = Err NoWorkLeaf
+body_answer (body.Join k a b q) n = Err NoWorkLeaf
 
 abbrev pub job_cells : Option ℕ → List Cell → ℕ → List Cell
 job_cells None cs n = cs
@@ -39,8 +39,8 @@ job_answer None cs n = Err NoWorkLeaf
 job_answer (Some i) cs n = body_answer (body_at cs i) n
 
 pub record JobMade (w : List ℕ) (n : ℕ) (t u : Tree) (r : Result Unit JobRefusal) : Type 0 where
-  pub answer : r ≡ job_answer (line_named t.bare.count (lines_of t) w) (lines_of t) n
-  pub cells : lines_of u ≡ job_cells (line_named t.bare.count (lines_of t) w) (lines_of t) n
-  pub count : u.bare.count ≡ t.bare.count
+  pub answer : r ≡ job_answer (line_named t.count (lines_of t) w) (lines_of t) n
+  pub cells : lines_of u ≡ job_cells (line_named t.count (lines_of t) w) (lines_of t) n
+  pub count : u.count ≡ t.count
   pub own : u.own ≡ t.own
-  pub lent : u.bare.cells.ghost_name ≡ t.bare.cells.ghost_name
+  pub lent : u.cells.ghost_name ≡ t.cells.ghost_name

@@ -1,6 +1,9 @@
+pub mod Top
 pub mod Trees
+pub mod Ordered
 pub mod Loads
 pub mod Jobs
+pub mod Refusals
 pub mod Stack
 pub mod Nesting
 pub mod Tells

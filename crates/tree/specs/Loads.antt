@@ -1,7 +1,7 @@
 -- What a load lays into the cells: each line as after a reset, spare cells blank.
 use Rattle.std.specs.Prelude.{◌≡◌, ℕ, ◌+◌, ◌%◌, ◌<◌, max, List, length, Some, None, Ok, Err, Option, Result}
 use Rattle.std.specs.List.{slice_get}
-use Rattle.channel.specs.declared.phase.Phase.TheVariants.{Stopped}
+use Rattle.channel.specs.Ends.{at_rest}
 use Rattle.leaves.specs.declared.timed.Timed.{Timed}
 use Rattle.leaves.specs.Timed as timed
 use Rattle.leaves.specs.Work as work
@@ -32,8 +32,8 @@ pub record FreshTimed (tag d e k : ℕ) (b : Body) : Type 0 where
 abbrev pub Fresh : ℕ → Part → Body → Type 0
 Fresh tag (part.Timed d e k) b = FreshTimed tag d e k b
 Fresh tag (part.Work p) b = b ≡ body.Work (work.made tag p)
-Fresh tag (part.Dist x y) b = b ≡ body.Join Distributor x y Stopped None
-Fresh tag (part.Seq x y) b = b ≡ body.Join Sequencer x y Stopped None
+Fresh tag (part.Dist x y) b = b ≡ body.Join Distributor x y at_rest
+Fresh tag (part.Seq x y) b = b ≡ body.Join Sequencer x y at_rest
 
 -- the cell of line i, where there is one, else a blank cell
 abbrev pub LineIs : ℕ → Option Node → Cell → Type 0

@@ -6,4 +6,4 @@ abbrev pub is_joined : Nest → Bool
 is_joined (empty p) = false
 is_joined (timed_leaf t) = false
 is_joined (work_leaf w) = false
-is_joined (join k p d a b) = true
+is_joined (join k q a b) = true

@@ -12,14 +12,10 @@ use Rattle.joins.specs.declared.rules.Drive.TheVariants.{Lower, Raise}
 use Rattle.joins.specs.Turns.{driven}
 use Rattle.cells.specs.declared.cell.Cell.{Cell}
 use Rattle.cells.specs.Bodies.{driven_body}
-use Rattle.cells.specs.Nests.{Nest, empty, nest_means, nest_timing, NestOrder, empty_step, drive_nest, nest_after}
-use Rattle.cells.specs.Flat.{body_at, put, stepped, reset_to, nest}
+use Rattle.cells.specs.Nests.{Nest, nest_means, nest_timing, empty_step, drive_nest, nest_after}
+use Rattle.cells.specs.Flat.{body_at, put, stepped, reset_to}
 use Rattle.tree.specs.declared.state.Tree.{Tree}
-
--- the nested tree of n lines: that of the last line, or the empty one
-abbrev pub top : ℕ → Phase → List Cell → Nest
-top zero own cs = empty own
-top (suc t) own cs = nest (suc t) cs t
+use Rattle.tree.specs.Top.{top}
 
 -- the top line, driven
 abbrev pub top_driven : Drive → ℕ → List Cell → List Cell
@@ -55,10 +51,10 @@ own_after call.Step n own cs = own_stepped n own
 own_after call.Restart n own cs = Stopped
 
 abbrev pub lines_of : Tree → List Cell
-lines_of t = t.bare.cells.now
+lines_of t = t.cells.now
 
 abbrev pub tree_nest : Tree → Nest
-tree_nest t = top t.bare.count t.own (lines_of t)
+tree_nest t = top t.count t.own (lines_of t)
 
 abbrev pub tree_means : Tree → Means
 tree_means t = nest_means (tree_nest t)
@@ -66,21 +62,18 @@ tree_means t = nest_means (tree_nest t)
 abbrev pub tree_timing : Tree → Timing
 tree_timing t = nest_timing (tree_nest t)
 
-abbrev pub TreeOrder : Tree → Type 0
-TreeOrder t = NestOrder (tree_nest t)
-
 -- what a call makes of a tree: its cells to the last field, and the nested tree, which goes as the library's joins do
 pub record TreeMade (c : Call) (t u : Tree) : Type 0 where
-  pub count : u.bare.count ≡ t.bare.count
-  pub cells : lines_of u ≡ cells_after c t.bare.count t.own (lines_of t)
-  pub own : u.own ≡ own_after c t.bare.count t.own (lines_of t)
-  pub lent : u.bare.cells.ghost_name ≡ t.bare.cells.ghost_name
+  pub count : u.count ≡ t.count
+  pub cells : lines_of u ≡ cells_after c t.count t.own (lines_of t)
+  pub own : u.own ≡ own_after c t.count t.own (lines_of t)
+  pub lent : u.cells.ghost_name ≡ t.cells.ghost_name
   pub nested : tree_nest u ≡ nest_after c (tree_nest t)
 
 -- the top, driven
 pub record Driven (d : Drive) (t u : Tree) : Type 0 where
-  pub count : u.bare.count ≡ t.bare.count
-  pub cells : lines_of u ≡ top_driven d t.bare.count (lines_of t)
-  pub own : u.own ≡ own_driven d t.bare.count t.own
-  pub lent : u.bare.cells.ghost_name ≡ t.bare.cells.ghost_name
+  pub count : u.count ≡ t.count
+  pub cells : lines_of u ≡ top_driven d t.count (lines_of t)
+  pub own : u.own ≡ own_driven d t.count t.own
+  pub lent : u.cells.ghost_name ≡ t.cells.ghost_name
   pub nested : tree_nest u ≡ drive_nest d (tree_nest t)

@@ -1,9 +1,11 @@
 // The calls of a tree.
 ghost use Rattle.std.specs.Prelude.{◌≡◌};
-ghost use Rattle.tree.specs.Trees.{own_stepped, tree_means, tree_timing, TreeOrder, TreeMade, Driven};
+ghost use Rattle.tree.specs.Ordered.{tree_in_order};
+ghost use Rattle.tree.specs.Trees.{own_stepped, tree_means, tree_timing, TreeMade, Driven};
 
 use crate::state::Tree;
-use cells::rules::{denier_in, phase_driven, phase_in};
+use cells::lines::{reset_lines, step_lines};
+use cells::rules::phase_driven;
 use channel::device::{QDevice, Refusal};
 use channel::phase::Phase;
 use joins::rules::Drive;
@@ -12,9 +14,9 @@ use joins::rules::Drive;
 fn own_next(n: usize, own: Phase) -> Phase
     ensures { result ≡ own_stepped n own }
 {
-    match own {
-        Phase::Request if n == 0 => Phase::Stopped,
-        Phase::Exit | Phase::Continue if n == 0 => Phase::Run,
+    match (n, own) {
+        (0, Phase::Request) => Phase::Stopped,
+        (0, Phase::Exit | Phase::Continue) => Phase::Run,
         _ => own,
     }
 }
@@ -24,11 +26,9 @@ impl Tree<'_> {
     fn drive_top(&mut self, drive: Drive)
         ensures { Driven drive self.old self.new }
     {
-        let n = self.bare.count;
-        if n == 0 {
-            self.own = phase_driven(drive, self.own);
-        } else {
-            self.bare.drive(n - 1, drive);
+        match self.count.checked_sub(1) {
+            Some(top) => self.cells[top].body = self.cells[top].body.driven(drive),
+            None => self.own = phase_driven(drive, self.own),
         }
     }
 }
@@ -38,30 +38,16 @@ impl QDevice for Tree<'_> {
 
     ghost timing = { tree_timing };
 
-    ghost ordered = { TreeOrder };
-
     ghost makes = { TreeMade };
 
+    ghost in_order = { tree_in_order };
+
     fn phase(&self) -> Phase {
-        let n = self.bare.count;
-        if n == 0 {
-            self.own
-        } else {
-            phase_in(self.bare.body(n - 1))
-        }
+        self.top().map_or(self.own, |top| top.phase())
     }
 
     fn denier(&self) -> Option<u32> {
-        let n = self.bare.count;
-        if n == 0 {
-            None
-        } else {
-            denier_in(self.bare.body(n - 1))
-        }
-    }
-
-    fn levels(&self) -> (bool, bool, bool) {
-        self.phase().levels()
+        self.top().and_then(|top| top.denier())
     }
 
     fn lower(&mut self) -> Result<(), Refusal> {
@@ -85,12 +71,12 @@ impl QDevice for Tree<'_> {
     }
 
     fn step(&mut self) {
-        self.own = own_next(self.bare.count, self.own);
-        self.bare.step();
+        self.own = own_next(self.count, self.own);
+        step_lines(self.cells, self.count);
     }
 
     fn reset(&mut self) {
         self.own = Phase::Stopped;
-        self.bare.reset();
+        reset_lines(self.cells, self.count);
     }
 }

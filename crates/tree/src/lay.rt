@@ -5,14 +5,14 @@ ghost use Rattle.topology.specs.Tables.{nodes_in};
 ghost use Rattle.tree.specs.Loads.{tag_of, Fresh, LineIs, Laid, AllBlank};
 
 use cells::cell::{Body, Cell};
-use channel::phase::Phase;
+use channel::end::QEnd;
 use joins::rules::Kind;
 use leaves::timed::Timed;
 use leaves::work::Work;
 use topology::node::Part;
 use topology::table::Topology;
 
-// The tag of line i, counted from 0: its number, counted from 1.
+// The tag of line i, counted from 0: its number, counted from 1. The cast is proved to lose nothing.
 fn line_tag(i: usize) -> u32
     ensures { result ≡ tag_of i }
 {
@@ -23,23 +23,17 @@ fn line_tag(i: usize) -> u32
 fn fresh_body(tag: u32, part: Part) -> Body
     ensures { Fresh tag part result }
 {
+    let join = |kind, first, second| Body::Join {
+        kind,
+        first,
+        second,
+        end: QEnd::at_rest(),
+    };
     match part {
         Part::Timed { d, e, k } => Body::Timed(Timed::new(tag, d, e, k)),
         Part::Work { p } => Body::Work(Work::new(tag, p)),
-        Part::Dist { first, second } => Body::Join {
-            kind: Kind::Distributor,
-            first,
-            second,
-            phase: Phase::Stopped,
-            denier: None,
-        },
-        Part::Seq { first, second } => Body::Join {
-            kind: Kind::Sequencer,
-            first,
-            second,
-            phase: Phase::Stopped,
-            denier: None,
-        },
+        Part::Dist { first, second } => join(Kind::Distributor, first, second),
+        Part::Seq { first, second } => join(Kind::Sequencer, first, second),
     }
 }
 
@@ -60,8 +54,8 @@ fn line_cell(plan: &Topology, i: usize) -> Cell
 pub fn lay(cells: &mut [Cell], plan: &Topology)
     ensures { Laid (nodes_in plan.now) cells.new }
 {
-    for i in 0..cells.len() {
-        cells[i] = line_cell(plan, i);
+    for (i, cell) in cells.iter_mut().enumerate() {
+        *cell = line_cell(plan, i);
     }
 }
 
@@ -69,7 +63,5 @@ pub fn lay(cells: &mut [Cell], plan: &Topology)
 pub fn blank_all(cells: &mut [Cell])
     ensures { AllBlank cells.new }
 {
-    for i in 0..cells.len() {
-        cells[i] = Cell::blank();
-    }
+    cells.fill(Cell::blank());
 }

@@ -1,4 +1,4 @@
-use Rattle.std.proofs.Common.{sym, refl, subst}
+use Rattle.std.proofs.Common.{sym, refl, ap, subst}
 use Rattle.cells.specs.declared.cell.Body.TheVariants as body
 use Rattle.tree.specs.Loads.{Fresh}
 use Rattle.tree.proofs.lay.fresh_body.Goals as goal
@@ -13,3 +13,6 @@ returns-in-Timed c =
       answer = c.new.ensures.delays.0;
       wake = c.new.ensures.delays.1;
     })
+
+pub returns-in-Work : goal.returns-in-Work
+returns-in-Work c = subst (λ p. Fresh c.args.tag p (body.Work c.new-in-Work.result)) (sym c.in-Work.is) (ap body.Work c.new-in-Work.ensures)

@@ -1,12 +1,11 @@
-use Rattle.std.proofs.Common.{◌<◌, ap, ◌∙◌, arith}
-use Rattle.cells.specs.Bodies.{body_phase}
+use Rattle.std.proofs.Common.{◌≡◌, ap, ◌∙◌, arith}
+use Rattle.std.proofs.lemmas.Grind.{common_steps}
 use Rattle.tree.specs.Trees.{lines_of}
-use Rattle.tree.proofs.Held.{wired_of}
-use Rattle.tree.proofs.Tops.{top_phase}
+use Rattle.tree.proofs.Tops.{phase_of, top_phase}
 use Rattle.tree.proofs.calls.TreeQDevice.phase.Goals as goal
 
-pub returns-else-n-eq0 : goal.returns-else-n-eq0
-returns-else-n-eq0 c =
+pub returns : goal.returns
+returns c =
     let t = c.args.self.now in
-    let h : 0 < t.bare.count = omega arith in
-    c.phase_in.ensures ∙ (ap body_phase c.body.ensures ∙ top_phase t.bare.count t.own (lines_of t) (wired_of t) h)
+    let e : c.map_or.result ≡ phase_of t.own c.top.result = grind (arith, common_steps) in
+    e ∙ (ap (phase_of t.own) c.top.ensures ∙ top_phase t.count t.own (lines_of t) t.wired)

@@ -1,23 +1,33 @@
+use Rattle.std.proofs.Common.{sym, refl, subst}
 use Rattle.channel.specs.declared.device.Call.TheVariants as call
-use Rattle.cells.specs.Flat.{stepped}
+use Rattle.cells.specs.Nests.{NestOrder}
+use Rattle.cells.specs.Flat.{Wired, stepped}
 use Rattle.cells.proofs.Calls.{stepped_wired}
+use Rattle.tree.specs.Top.{top}
+use Rattle.tree.specs.Ordered.{tree_order}
 use Rattle.tree.specs.Trees.{lines_of}
-use Rattle.tree.proofs.Held.{wired_of, held}
-use Rattle.tree.proofs.Tops.{tree_made, step_order}
+use Rattle.tree.proofs.Tops.{tree_made, step_order, own_order, stepped_order}
 use Rattle.tree.proofs.calls.TreeQDevice.step.Goals as goal
 
 pub invariant_of-self : goal.invariant_of-self
 invariant_of-self c =
     let t = c.args.self.now in
-    held _ t.bare.count _ (stepped t.bare.count (lines_of t)) c.step.ensures.count c.step.ensures.cells
-    (stepped_wired t.bare.count (lines_of t) (wired_of t))
+    record {
+      wired = t.wired;
+      order = ∣ subst (λ p. NestOrder (top t.count p (lines_of t))) (sym c.own_next-self.ensures) (own_order t.count t.own (lines_of t) (tree_order t)) ∣₁;
+    }
+
+pub invariant_of-self-2 : goal.invariant_of-self-2
+invariant_of-self-2 c =
+    let t = c.args.self.now in
+    record {
+      wired = subst (Wired t.count) (sym c.step_lines.ensures) (stepped_wired t.count (lines_of t) t.wired);
+      order = ∣ subst (λ cs. NestOrder (top t.count c.own_next-self.result cs)) (sym c.step_lines.ensures)
+          (subst (λ p. NestOrder (top t.count p (stepped t.count (lines_of t)))) (sym c.own_next-self.ensures)
+          (stepped_order t.count t.own (lines_of t) t.wired (tree_order t))) ∣₁;
+    }
 
 pub returns : goal.returns
 returns c =
-    let m = tree_made call.Step c.args.self.now _ c.step.ensures.count c.step.ensures.cells c.own_next-self.ensures c.step.ensures.keeps in
-    record {
-      exact = m;
-      order = λ o. (step_order _ _ m o).0;
-      pace = λ o. (step_order _ _ m o).1;
-      kept = λ o. (step_order _ _ m o).2;
-    }
+    let m = tree_made call.Step c.args.self.now _ refl c.step_lines.ensures c.own_next-self.ensures refl in
+    record { exact = m; order = (step_order _ _ m).0; pace = (step_order _ _ m).1 }

@@ -1,25 +1,31 @@
-use Rattle.std.proofs.Common.{refl}
-use Rattle.tree.proofs.Held.{held}
-use Rattle.tree.proofs.Piles.{tree_fit, tree_begun}
-use Rattle.tree.proofs.Tops.{in_order, fresh_nested, fresh_reset}
+use Rattle.std.proofs.Common.{arith}
+use Rattle.topology.specs.Tables.{nodes_in}
+use Rattle.tree.proofs.Piles.{tree_begun}
+use Rattle.tree.proofs.Tops.{laid_at, laid_fresh, fresh_reset}
 use Rattle.tree.proofs.state.Tree.load.Goals as goal
 
-pub invariant_of-self : goal.invariant_of-self
-invariant_of-self c = held _ _ _ _ refl refl c.load-answer.ensures.wired
-
-pub returns : goal.returns
-returns c =
-    let b = c.load-answer.ensures in
-    let fresh = fresh_nested c.load-answer.new.self.count _ b.wired b.fresh in
+pub invariant_of-self-3 : goal.invariant_of-self-3
+invariant_of-self-3 c =
+    let told = c.in_ok-plan.ensures in
+    let f = laid_fresh c.len-self.result (nodes_in c.in_ok-plan.plan) c.lay.new.cells c.len-self.ensures told.sound (omega (arith, told.fits)) c.lay.ensures in
     record {
-      told = b.told;
-      lines = b.lines;
-      long = b.long;
-      own = refl;
-      lent = b.keeps;
-      fresh = fresh;
-      order = (fresh_reset _ fresh).0;
-      kept = in_order _ (fresh_reset _ fresh).1;
-      begun = tree_begun _ _ (fresh_reset _ fresh).0;
-      fit = λ j. tree_fit _ (record { order = (fresh_reset _ fresh).1; joins = j });
+      wired = laid_at _ (nodes_in c.in_ok-plan.plan) _ c.len-self.ensures told.sound (omega (arith, told.fits)) c.lay.ensures;
+      order = ∣ (fresh_reset _ f).1 ∣₁;
     }
+
+pub returns-clause-fresh : goal.returns-clause-fresh
+returns-clause-fresh c =
+    let told = c.in_ok-plan.ensures in
+    laid_fresh _ (nodes_in c.in_ok-plan.plan) _ c.len-self.ensures told.sound (omega (arith, told.fits)) c.lay.ensures
+
+pub returns-clause-order : goal.returns-clause-order
+returns-clause-order c =
+    let told = c.in_ok-plan.ensures in
+    let f = laid_fresh c.len-self.result (nodes_in c.in_ok-plan.plan) c.lay.new.cells c.len-self.ensures told.sound (omega (arith, told.fits)) c.lay.ensures in
+    (fresh_reset _ f).0
+
+pub returns-clause-begun : goal.returns-clause-begun
+returns-clause-begun c =
+    let told = c.in_ok-plan.ensures in
+    let f = laid_fresh c.len-self.result (nodes_in c.in_ok-plan.plan) c.lay.new.cells c.len-self.ensures told.sound (omega (arith, told.fits)) c.lay.ensures in
+    tree_begun _ _ (fresh_reset _ f).0
