@@ -92,7 +92,6 @@ module _ (b : ℕ) (low : b < 48) where
   name_lacks w e = lacks_names b w low (legal_letters w e)
 
   words_lack : (all : List Node) (n : List ℕ) (p : Part) (j : ℕ) → legal n ≡ true → ((i : ℕ) → i < j → legal (name_of_line all i) ≡ true) → SoundPart p → JoinsBelow j p → All (Lacks b) (line_words all n p)
-  unfolding letters_digits
   words_lack all n (Timed d e k) j r f s l = (keyword_lacks (codes "timed") refl, (name_lacks n r, (lacks_decimal b d low s.1, (lacks_decimal b e low s.3, (lacks_decimal b k low s.4, tt)))))
   words_lack all n (Work p) j r f s l = (keyword_lacks (codes "work") refl, (name_lacks n r, (lacks_decimal b p low s, tt)))
   words_lack all n (Dist x y) j r f s l = (keyword_lacks (codes "dist") refl, (name_lacks n r, (name_lacks (name_of_line all x) (f x l.0), (name_lacks (name_of_line all y) (f y l.1), tt))))

@@ -1,12 +1,13 @@
 -- What holds of the nodes so far, line by line, and of all of them at the end. Assumes nothing.
 use Rattle.std.proofs.Common.{◌≡◌, ℕ, zero, suc, ◌+◌, ◌-◌, ◌*◌, ◌<◌, ◌≤◌, Bool, true, false, cond, not, ◌||◌, eqb, ltb, List, [], ◌∷◌, ◌++◌, length, get_or, Some, None, Ok, Err, Option, Result, sym, refl, ap, ◌∙◌, subst, ⊎_elim, arith}
 use Rattle.std.proofs.lemmas.List.{get_or_append_left, get_or_push, length_push}
-use Rattle.std.proofs.lemmas.Bool.{cases_eq, both_ways, or_cases, eqb-true, or_left, or_right, ltb-false, ne_eqb, eqb-false, not-false}
+use Rattle.std.proofs.lemmas.List.Folds.{list_any_at, list_any-append}
+use Rattle.std.proofs.lemmas.Bool.{cases_eq, both_ways, or_cases, eqb-true, ltb-false, ne_eqb, eqb-false, not-false}
 use Rattle.words.specs.Pieces.{lines_of, word_of}
 use Rattle.words.specs.Names.{legal, name_of, text_of}
 use Rattle.words.proofs.Cuts.{lines_at}
 use Rattle.words.proofs.Written.{legal_short, text_name, number_says}
-use Rattle.words.specs.declared.name.Name.{Name}
+use Rattle.words.specs.declared.short.Short.{Short}
 use Rattle.lines.specs.declared.flaw.Flaw.{Flaw}
 use Rattle.topology.specs.declared.fault.Fault.{Fault}
 use Rattle.topology.specs.declared.fault.Fault.TheVariants.{BadSize, Unended, TooManyLines, TooFewCells, BadLine, NeverJoined}
@@ -20,7 +21,6 @@ use Rattle.topology.specs.Nodes.{and_then, absent, called, joined, part_joins, n
 use Rattle.topology.specs.Format.{node_at, nodes_on, loose, tree, whole, outcome}
 use Rattle.topology.specs.Trees.{JoinsBelow, SoundPart, join_count, joins_in, WellFormed}
 use Rattle.topology.proofs.Made.{Made, MadePart, PairOf, node_ok, line_ok, and_then_ok, err_ok, ok_inj, node_below, named_none, pair_below}
-use Rattle.topology.proofs.Marks.{joined_push}
 use Rattle.topology.proofs.Counts.{fails, fails_same, fails_none, fails_more, fails_less}
 
 -- what holds of each node, and of the newest, holds of each
@@ -83,7 +83,6 @@ joins_low (Seq a b) n k h t = ⊎_elim (λ e. let q = eqb-true a k e in omega ar
 
 -- a line is joined where some node joins it
 pub joined_where : (k : ℕ) (ns : List Node) → joined k ns ≡ true → (j : ℕ) × (j < length ns) × (part_joins k (get_or ns j absent).part ≡ true)
-unfolding joined
 joined_where k [] e = absurd (both_ways false refl e)
 joined_where k (n ∷ ns) e = by (part_joins k n.part) refl (joined k ns) (joined_where k ns) e
   where
@@ -92,10 +91,17 @@ joined_where k (n ∷ ns) e = by (part_joins k n.part) refl (joined k ns) (joine
     by false p u ih h = let r = ih h in (suc r.0, omega (arith, r.1), r.2)
 
 pub joined_by : (k : ℕ) (ns : List Node) (j : ℕ) → j < length ns → part_joins k (get_or ns j absent).part ≡ true → joined k ns ≡ true
-unfolding joined
-joined_by k [] j h e = absurd (omega arith)
-joined_by k (n ∷ ns) zero h e = or_left (part_joins k n.part) (joined k ns) e
-joined_by k (n ∷ ns) (suc j) h e = or_right (part_joins k n.part) (joined k ns) (joined_by k ns j (omega arith) e)
+joined_by k ns j h e = list_any_at (λ n. part_joins k n.part) ns j absent h e
+
+-- the newest line joins more
+joined_push : (k : ℕ) (ns : List Node) (n : Node) → joined k (ns ++ n ∷ []) ≡ (part_joins k n.part || joined k ns)
+joined_push k ns n = list_any-append (λ m. part_joins k m.part) ns (n ∷ []) ∙ last (joined k ns) (part_joins k n.part)
+  where
+    last : (x y : Bool) → (x || (y || false)) ≡ (y || x)
+    last true true = refl
+    last true false = refl
+    last false true = refl
+    last false false = refl
 
 joins_push : (ns : List Node) (n : Node) → joins_in (ns ++ n ∷ []) ≡ joins_in ns + join_count n.part
 unfolding joins_in
@@ -160,7 +166,7 @@ record Adds (ns : List Node) (n : Node) : Type 0 where
   once : (i : ℕ) → i < length ns → Apart (get_or ns i absent) n
   count : fails (length (ns ++ n ∷ [])) (λ k. joined k (ns ++ n ∷ [])) + 2 * joins_in (ns ++ n ∷ []) ≡ length (ns ++ n ∷ [])
 
-module _ (ns : List Node) (g : Grown ns) (name : Name) where
+module _ (ns : List Node) (g : Grown ns) (name : Short 12) where
   leaf_adds : (p : Part) → SoundPart p → ((k : ℕ) → part_joins k p ≡ false) → join_count p ≡ 0 → Adds ns (record { name = name; part = p })
   leaf_adds p s is none =
       record { sound = s; once = λ i h k x y. both_ways (part_joins k p) (is k) y; count = leaf_count ns g (record { name = name; part = p }) is none }
@@ -266,7 +272,7 @@ pub well_formed : (t : List ℕ) (cells : ℕ) (ns : List Node) → Accepted t c
 well_formed t cells ns a =
     let r = nodes_grown (lines_of t) [] ns grown_none a.nodes in
     let g = r.0 in
-    let some = ap length (lines_at 10 t a.some) in
+    let some = ap length (lines_at t a.some) in
     record {
       some = omega (arith, r.1);
       few = omega (arith, r.1, a.few);

@@ -1,7 +1,6 @@
 pub mod Looks
 pub mod Turns
 pub mod Made
-pub mod Marks
 pub mod Counts
 pub mod Grown
 pub mod Prints

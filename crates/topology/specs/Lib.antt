@@ -1,7 +1,6 @@
 pub mod Faults
 pub mod Nodes
 pub mod Format
-pub mod Marks
 pub mod Tables
 pub mod Trees
 pub mod Printed

@@ -1,5 +1,6 @@
 -- Nodes, as lines become them one after another. Assumes nothing.
 use Rattle.std.specs.Prelude.{ℕ, suc, Bool, false, cond, ◌||◌, List, [], ◌∷◌, is_some, Some, None, Ok, Err, Option, Result, ◌==◌}
+use Rattle.std.specs.List.{list_any}
 use Rattle.std.specs.Str.{bytes_eq}
 use Rattle.words.specs.Numbers.{number_of}
 use Rattle.words.specs.Names.{name_of, text_of}
@@ -33,16 +34,16 @@ unfoldable pub named : List Node → List ℕ → Option ℕ
 named [] w = None
 named (n ∷ ns) w = cond (bytes_eq (called n) w) (Some 0) (next (named ns w))
 
--- whether a node joins line j
+-- whether a part joins line j
 abbrev pub part_joins : ℕ → Part → Bool
 part_joins j (Timed d e k) = false
 part_joins j (Work p) = false
 part_joins j (Dist a b) = a == j || b == j
 part_joins j (Seq a b) = a == j || b == j
 
-unfoldable pub joined : ℕ → List Node → Bool
-joined j [] = false
-joined j (n ∷ ns) = part_joins j n.part || joined j ns
+-- whether some node joins line j
+abbrev pub joined : ℕ → List Node → Bool
+joined j ns = list_any (λ n. part_joins j n.part) ns
 
 -- a number of low to 255
 abbrev pub number_in : ℕ → List ℕ → Result ℕ Flaw

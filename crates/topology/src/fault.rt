@@ -1,11 +1,13 @@
 // What can be wrong with a text, by number, place and line.
-ghost use Rattle.std.specs.Prelude.{◌≡◌};
-ghost use Rattle.topology.specs.Faults.{shown};
+ghost use Rattle.std.specs.Prelude.{◌≡◌, Some};
+ghost use Rattle.topology.specs.Faults.{shown, fault_text};
 
 use lines::flaw::Flaw;
+use std::error::Error;
+use std::fmt;
 
 // The one fault of a text. Lines are counted from 1.
-#[derive(Clone, Copy, PartialEq)]
+#[derive(Clone, Copy, PartialEq, Eq, Debug)]
 pub enum Fault {
     BadSize,
     Unended,
@@ -16,7 +18,7 @@ pub enum Fault {
 }
 
 // Where a fault is found.
-#[derive(Clone, Copy, PartialEq)]
+#[derive(Clone, Copy, PartialEq, Eq, Debug)]
 pub enum Place {
     Text,
     Line,
@@ -24,27 +26,14 @@ pub enum Place {
 }
 
 impl Fault {
-    pub fn number(self) -> u8
-        ensures { result ≡ (shown self).number }
-    {
-        match self {
-            Fault::BadSize => 1,
-            Fault::Unended => 2,
-            Fault::TooManyLines => 3,
-            Fault::TooFewCells => 12,
-            Fault::BadLine { flaw, .. } => flaw.number(),
-            Fault::NeverJoined { .. } => 11,
-        }
-    }
-
     pub fn place(self) -> Place
         ensures { result ≡ (shown self).place }
     {
         match self {
-            Fault::BadLine { .. } => Place::Line,
-            Fault::NeverJoined { .. } => Place::Tree,
             Fault::BadSize | Fault::Unended | Fault::TooManyLines | Fault::TooFewCells =>
                 Place::Text,
+            Fault::BadLine { .. } => Place::Line,
+            Fault::NeverJoined { .. } => Place::Tree,
         }
     }
 
@@ -53,8 +42,36 @@ impl Fault {
         ensures { result ≡ (shown self).line }
     {
         match self {
-            Fault::BadLine { line, .. } | Fault::NeverJoined { line } => line,
             Fault::BadSize | Fault::Unended | Fault::TooManyLines | Fault::TooFewCells => 0,
+            Fault::BadLine { line, .. } | Fault::NeverJoined { line } => line,
         }
     }
 }
+
+// Each fault has its number.
+impl From<Fault> for u8 {
+    ghost from_gives = { λ fault n. n ≡ (shown fault).number };
+
+    fn from(fault: Fault) -> u8 {
+        match fault {
+            Fault::BadSize => 1,
+            Fault::Unended => 2,
+            Fault::TooManyLines => 3,
+            Fault::TooFewCells => 12,
+            Fault::BadLine { flaw, .. } => flaw.into(),
+            Fault::NeverJoined { .. } => 11,
+        }
+    }
+}
+
+impl fmt::Display for Fault {
+    ghost output = { λ fault. Some (fault_text (shown fault)) };
+
+    fn fmt<W: fmt::Write>(&self, f: &mut fmt::Formatter<W>) -> fmt::Result {
+        let number = u8::from(*self);
+        let line = self.line();
+        write!(f, "fault {number} line {line}")
+    }
+}
+
+impl Error for Fault {}

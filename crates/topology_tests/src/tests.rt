@@ -1,6 +1,5 @@
 // A text and what it should read as.
 use std::process::Abort;
-use std::test::Fail;
 use topology::fault::Place;
 use topology::reader::read;
 
@@ -8,35 +7,26 @@ mod large;
 mod small;
 mod values;
 
-// The place of a number.
-fn place_of(number: u8) -> u8 {
+// Accepted, or the fault's number and line.
+type Told = Result<(), (u8, u8)>;
+
+// Where the fault of a number is found.
+fn place_of(number: u8) -> Place {
     match number {
-        1 | 2 | 3 | 12 => 0,
-        11 => 2,
-        _ => 1,
+        1 | 2 | 3 | 12 => Place::Text,
+        11 => Place::Tree,
+        _ => Place::Line,
     }
 }
 
-fn place_code(place: Place) -> u8 {
-    match place {
-        Place::Text => 0,
-        Place::Line => 1,
-        Place::Tree => 2,
-    }
-}
-
-// Reads a text and compares its fault; number 0 is for a text that is accepted.
-fn reads_as(rt: &impl Abort, text: &[u8], cells: usize, number: u8, line: u8) -> Result<(), Fail> {
+// Reads a text and compares what is told of it.
+fn reads_as(rt: &impl Abort, text: &[u8], cells: usize, told: Told) {
     match read(text, cells) {
-        Ok(_) => {
-            assert_eq!(rt; number, 0);
-            Ok(())
-        },
+        Ok(_) => assert_eq!(rt; told, Ok(())),
         Err(fault) => {
-            assert_eq!(rt; fault.number(), number);
-            assert_eq!(rt; fault.line(), line);
-            assert_eq!(rt; place_code(fault.place()), place_of(number));
-            Ok(())
+            let number = u8::from(fault);
+            assert_eq!(rt; told, Err((number, fault.line())));
+            assert_eq!(rt; place_of(number), fault.place());
         }
     }
 }

@@ -1,36 +1,30 @@
 // Goes through the lines of a text.
-ghost use Rattle.std.specs.Prelude.{◌≡◌, ◌<◌, ◌≤◌, false, [], length, IfSome, IfOk, slice_index_or};
+ghost use Rattle.std.specs.Prelude.{◌≡◌, ◌+◌, ◌-◌, ◌<◌, ◌≤◌, [], length, Ok, Err, IfOk, IfSome, MatchResult};
 ghost use Rattle.words.specs.Pieces.{lines_of};
-ghost use Rattle.topology.specs.Format.{whole, nodes_on, loose, tree, outcome};
-ghost use Rattle.topology.specs.Nodes.{and_then};
-ghost use Rattle.topology.specs.Tables.{told};
+ghost use Rattle.topology.specs.Format.{whole, node_at, nodes_on, loose, tree, outcome};
+ghost use Rattle.topology.specs.Nodes.{and_then, joined};
+ghost use Rattle.topology.specs.declared.fault.Fault.TheVariants.{BadLine};
+ghost use Rattle.topology.specs.Tables.{nodes_in, told};
 
-use super::{mark, node_at};
 use crate::fault::Fault;
-use crate::node::{Node, Part};
-use crate::table::Topology;
-use words::name::Name;
-use words::piece::{line_count, split_line};
+use crate::node::Node;
+use crate::table::{LINES, Topology};
+use words::piece::Lines;
 
 const BYTES: usize = 8192;
 
-const LINES: usize = 127;
-
-// The count of lines, or the fault of the whole text.
+// Looks at the whole text, and tells how many lines it has.
 fn measured(text: &[u8], cells: usize) -> Result<usize, Fault>
     ensures value { result ≡ whole text.now cells }
-    ensures lines { IfOk result (λ n. (n ≡ length (lines_of text.now)) × (n ≤ 127)) }
+    ensures lines { IfOk result (λ n. length (lines_of text.now) ≤ 127) }
 {
-    if text.len() == 0 {
+    if text.is_empty() || text.len() > BYTES {
         return Err(Fault::BadSize);
     }
-    if text.len() > BYTES {
-        return Err(Fault::BadSize);
-    }
-    if text[text.len() - 1] != b'\n' {
+    if text.last() != Some(&b'\n') {
         return Err(Fault::Unended);
     }
-    let lines = line_count(text);
+    let lines = Lines::new(text).count();
     if lines > LINES {
         return Err(Fault::TooManyLines);
     }
@@ -40,53 +34,38 @@ fn measured(text: &[u8], cells: usize) -> Result<usize, Fault>
     Ok(lines)
 }
 
-// The first of `n` lines that is not marked, from 0.
-fn first_loose(joined: &[bool], n: usize) -> Option<usize>
-    requires { n ≤ length joined.now }
-    ensures value { result ≡ loose n 0 (λ k. slice_index_or joined.now k false) }
-    ensures bound { IfSome result (λ k. k < n) }
-{
-    for k in 0..n {
-        if !joined[k] {
-            return Some(k);
-        }
+impl Topology {
+    // The node of the next line of text, or the fault of that line.
+    fn next_node(&self, text: &[u8]) -> Result<Node, Fault>
+        ensures { MatchResult (node_at (nodes_in self.now) text.now) (λ n. result ≡ Ok n) (λ f. result ≡ Err (BadLine f (length (nodes_in self.now) + 1))) }
+    {
+        let line = self.count + 1;
+        self.node_at(text)
+            .map_err(|flaw| Fault::BadLine { flaw, line })
     }
-    None
+
+    // The first line that no node joins, from 0, of those before the last.
+    fn first_loose(&self) -> Option<u8>
+        ensures value { result ≡ loose (length (nodes_in self.now) - 1) 0 (λ k. joined k (nodes_in self.now)) }
+        ensures bound { IfSome result (λ k. k < length (nodes_in self.now)) }
+    {
+        (0..self.count.saturating_sub(1)).find(|k| !self.is_joined(*k))
+    }
 }
 
 // The nodes of the lines, one after another.
-fn build(text: &[u8], lines: usize) -> Result<Topology, Fault>
-    requires few { lines ≤ 127 }
-    requires all { lines ≡ length (lines_of text.now) }
+fn build(text: &[u8]) -> Result<Topology, Fault>
+    requires { length (lines_of text.now) ≤ 127 }
     ensures { told result ≡ and_then (nodes_on [] (lines_of text.now)) tree }
 {
-    let blank = Node {
-        name: Name::new(b""),
-        part: Part::Work { p: 0 },
-    };
-    let mut nodes = [blank; 127];
-    let mut joined = [false; 127];
-    let mut rest = text;
-    for n in 0..lines {
-        let (line, after) = split_line(rest);
-        match node_at(&nodes[0..n], &joined, line) {
-            Err(flaw) => return Err(Fault::BadLine {
-                flaw,
-                line: n as u8 + 1,
-            }),
-            Ok(node) => {
-                nodes[n] = node;
-                mark(&mut joined, node.part);
-            }
-        }
-        rest = after;
+    let mut topology = Topology::empty();
+    for line in Lines::new(text) {
+        let node = topology.next_node(line)?;
+        topology.push(node);
     }
-    match first_loose(&joined, lines.saturating_sub(1)) {
-        Some(k) => Err(Fault::NeverJoined { line: k as u8 + 1 }),
-        None => Ok(Topology {
-            nodes,
-            count: lines as u8,
-        }),
+    match topology.first_loose() {
+        Some(k) => Err(Fault::NeverJoined { line: k + 1 }),
+        None => Ok(topology),
     }
 }
 
@@ -94,8 +73,6 @@ fn build(text: &[u8], lines: usize) -> Result<Topology, Fault>
 pub(crate) fn attempt(text: &[u8], cells: usize) -> Result<Topology, Fault>
     ensures { told result ≡ outcome text.now cells }
 {
-    match measured(text, cells) {
-        Err(fault) => Err(fault),
-        Ok(lines) => build(text, lines),
-    }
+    measured(text, cells)?;
+    build(text)
 }
