@@ -11,7 +11,7 @@ use Rattle.joins.specs.declared.rules.Drive.TheVariants.{Nothing, Lower, Raise}
 use Rattle.pile.specs.Views.{q_end, shows, Opened, Truly, Begun}
 use Rattle.pile.specs.declared.own.QCall.{QCall}
 use Rattle.pile.specs.declared.own.QCall.TheVariants as own
-use Rattle.words.specs.declared.name.Name.{Name}
+use Rattle.words.specs.declared.short.Short.{Short}
 use Rattle.pile.specs.Calls.{other, Called, Timed}
 use Rattle.pile.specs.OfQ.{q_view, q_kind, q_makes}
 use Rattle.pile.specs.Runs.{Fit, Linked}
@@ -87,7 +87,7 @@ own_linked_as k q a b t u e f l =
     (subst (λ z. Linked TopJoins tree_view tree_timing (q_kind q) z t u) (sym f) l)
 
 -- jobs change nothing that is seen
-pub job_linked : (k : TreeCall) (w : Name) (n : ℕ) (b : Bool) (t u : Tree) → k ≡ Job w n → tree_means u ≡ tree_means t → tree_timing u ≡ tree_timing t
+pub job_linked : (k : TreeCall) (w : Short 12) (n : ℕ) (b : Bool) (t u : Tree) → k ≡ Job w n → tree_means u ≡ tree_means t → tree_timing u ≡ tree_timing t
     → is_joined (tree_nest u) ≡ is_joined (tree_nest t) → TopJoins t → Linked TopJoins tree_view tree_timing (tree_kind k) b t u
 job_linked k w n b t u e m p i j = subst (λ z. Linked TopJoins tree_view tree_timing (tree_kind z) b t u) (sym e) (by b)
   where

@@ -8,7 +8,7 @@ ghost use Rattle.tree.specs.Stack.{tree_view, TopJoins, tree_kind, call_makes, U
 
 use crate::stack::TreeCall;
 use crate::state::Tree;
-use pile::pile::play;
+use pile::played::play;
 
 // The top of the tree joins no two lines.
 #[derive(Clone, Copy, PartialEq, Eq, Debug)]
