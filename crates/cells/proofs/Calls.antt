@@ -1,14 +1,14 @@
 -- The other calls on the cells: a drive of the top, a reset of all lines, jobs for a leaf; and the wiring, which stays.
-use Rattle.std.proofs.Common.{◌≡◌, ℕ, zero, suc, ◌<◌, ◌≤◌, Bool, true, false, not, ◌||◌, eqb, ◌⊎◌, List, length, sym, refl, ap, ◌∙◌, subst, inl, inr, arith}
-use Rattle.std.proofs.lemmas.Bool.{cases_eq, both_ways, or_cases, or_left, or_right, or_from, and_parts, and_from, eqb-true}
+use Rattle.std.proofs.Common.{◌≡◌, ℕ, zero, suc, ◌<◌, ◌≤◌, true, false, ◌⊎◌, List, length, sym, refl, ap, ◌∙◌, subst, inl, inr, arith}
+use Rattle.std.proofs.lemmas.Bool.{cases_eq, both_ways}
 use Rattle.joins.specs.declared.rules.Drive.{Drive}
 use Rattle.cells.specs.declared.cell.Body.{Body}
 use Rattle.cells.specs.declared.cell.Body.TheVariants as body
 use Rattle.cells.specs.declared.cell.Cell.{Cell}
-use Rattle.cells.specs.Bodies.{driven_body, answered_body, reset_body, joins_line, joins_twice, shares}
+use Rattle.cells.specs.Bodies.{driven_body, answered_body, reset_body, joins_line, joins_twice}
 use Rattle.cells.specs.Nests.{drive_nest, reset_nest}
-use Rattle.cells.specs.Flat.{body_at, put, is_blank, drive_from, stepped, reset_to, nest_of, nest, Wired, none_share}
-use Rattle.cells.proofs.Passes.{not_true, put_same, put_other, length_put, joins_first, joins_second, joins_driven, twice_driven, blank_driven, touched_wired, passed, answered}
+use Rattle.cells.specs.Flat.{body_at, put, is_blank, drive_from, stepped, reset_to, nest_of, nest, Wired}
+use Rattle.cells.proofs.Passes.{put_same, put_other, length_put, joins_first, joins_second, joins_driven, twice_driven, blank_driven, touched_wired, passed, answered}
 
 -- two bodies wired alike
 pub record Alike (b c : Body) : Type 0 where
@@ -54,12 +54,6 @@ stepped_wired n cs w =
     let q = answered n (drive_from n cs) v in
     wired_alike n (drive_from n cs) _ q.long
     (λ i h. alike_at _ _ (q.done i h) (body_at (drive_from n cs) i) (alike_answered _ _ _)) v
-
-pub stepped_long : (n : ℕ) (cs : List Cell) → Wired n cs → length (stepped n cs) ≡ length cs
-stepped_long n cs w =
-    let p = passed n cs w in
-    let v : Wired n (drive_from n cs) = touched_wired n n cs _ (omega arith) p.long p.touched w in
-    (answered n (drive_from n cs) v).long ∙ p.long
 
 -- lines that are the same have the same nested trees above them
 pub nest_frame : (n f i : ℕ) (cs ds : List Cell) → Wired n cs → i < n → ((j : ℕ) → j ≤ i → body_at ds j ≡ body_at cs j) → nest f ds i ≡ nest f cs i
@@ -151,60 +145,3 @@ nest_resets n (suc f) i cs ds w r h l =
     by (body.Work t) below e same = refl
     by (body.Join k a b q) below e same =
         rw (same a (below a (joins_first (body.Join k a b q) refl)), same b (below b (joins_second (body.Join k a b q) refl)))
-
--- two lines that share none have none in common, and back
-pub apart_lines : (b c : Body) (k : ℕ) → shares b c ≡ false → joins_line k b ≡ true → joins_line k c ≡ true → ⊥
-apart_lines body.Blank c k s e f = both_ways false refl e
-apart_lines (body.Timed t) c k s e f = both_ways false refl e
-apart_lines (body.Work t) c k s e f = both_ways false refl e
-apart_lines (body.Join z a b q) c k s e f = by (or_cases (eqb a k) (eqb b k) e)
-  where
-    by : (eqb a k ≡ true) ⊎ (eqb b k ≡ true) → ⊥
-    by (inl i) = both_ways (joins_line a c || joins_line b c) s (or_left _ _ (subst (λ j. joins_line j c ≡ true) (sym (eqb-true a k i)) f))
-    by (inr i) = both_ways (joins_line a c || joins_line b c) s (or_right _ _ (subst (λ j. joins_line j c ≡ true) (sym (eqb-true b k i)) f))
-
-pub lines_apart : (b c : Body) → ((k : ℕ) → joins_line k b ≡ true → joins_line k c ≡ true → ⊥) → shares b c ≡ false
-lines_apart body.Blank c n = refl
-lines_apart (body.Timed t) c n = refl
-lines_apart (body.Work t) c n = refl
-lines_apart (body.Join z a b q) c n =
-    or_from (joins_line a c) (joins_line b c)
-    (not_true _ (n a (joins_first (body.Join z a b q) refl)))
-    (not_true _ (n b (joins_second (body.Join z a b q) refl)))
-
-pub none_share_at : (cs : List Cell) (b : Body) (n i : ℕ) → none_share cs b n ≡ true → i < n → shares (body_at cs i) b ≡ false
-unfolding none_share
-none_share_at cs b zero i e h = let z : ⊥ = omega arith in elim z [ ]
-none_share_at cs b (suc n) i e h =
-    let q = and_parts (not (shares (body_at cs n) b)) (none_share cs b n) e in
-    by (cases_eq i n) (not_is_true _ q.0) (λ l. none_share_at cs b n i q.1 l)
-  where
-    not_is_true : (t : Bool) → not t ≡ true → t ≡ false
-    not_is_true true e = sym e
-    not_is_true false e = refl
-
-    by : (i ≡ n) ⊎ (i ≡ n → ⊥) → shares (body_at cs n) b ≡ false → (i < n → shares (body_at cs i) b ≡ false) → shares (body_at cs i) b ≡ false
-    by (inl z) s r = subst (λ k. shares (body_at cs k) b ≡ false) (sym z) s
-    by (inr z) s r = r (omega arith)
-
-pub none_shared : (cs : List Cell) (b : Body) (n : ℕ) → ((i : ℕ) → i < n → shares (body_at cs i) b ≡ false) → none_share cs b n ≡ true
-unfolding none_share
-none_shared cs b zero h = refl
-none_shared cs b (suc n) h =
-    and_from _ _ (ap not (h n (omega arith))) (none_shared cs b n (λ i l. h i (omega arith)))
-
--- the wiring as a tree holds it
-pub wired_by : (n : ℕ) (cs : List Cell) → n ≤ length cs → ((j : ℕ) → j < n → is_blank (body_at cs j) ≡ false)
-    → ((j k : ℕ) → j < n → joins_line k (body_at cs j) ≡ true → k < j) → ((j : ℕ) → j < n → joins_twice (body_at cs j) ≡ false)
-    → ((j : ℕ) → j < n → none_share cs (body_at cs j) j ≡ true) → Wired n cs
-wired_by n cs f b e a o = record {
-  fits = f;
-  filled = b;
-  earlier = e;
-  apart = a;
-  once = λ i j k lt h x y. apart_lines (body_at cs i) (body_at cs j) k (none_share_at cs (body_at cs j) j i (o j h) lt) x y;
-}
-
-pub wired_once : (n : ℕ) (cs : List Cell) → Wired n cs → (j : ℕ) → j < n → none_share cs (body_at cs j) j ≡ true
-wired_once n cs w j h =
-    none_shared cs (body_at cs j) j (λ i lt. lines_apart (body_at cs i) (body_at cs j) (λ k x y. w.once i j k lt h x y))

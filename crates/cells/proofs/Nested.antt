@@ -2,10 +2,8 @@
 use Rattle.std.proofs.Common.{◌≡◌, refl, arith}
 use Rattle.std.proofs.lemmas.Bool.Decides.{nat_tests}
 use Rattle.channel.specs.declared.phase.Phase.{Phase}
-use Rattle.channel.specs.declared.phase.Phase.TheVariants.{Run, Request, Stopped, Exit, Denied, Continue}
-use Rattle.channel.specs.Calls.{lower_answer, raise_answer, Lowered, Raised, Stepped, Reset}
-use Rattle.channel.specs.Timing.{Charged, Ticked}
-use Rattle.channel.specs.Ends.{end_lowered, end_raised}
+use Rattle.channel.specs.Calls.{Lowered, Raised, Stepped, Reset}
+use Rattle.channel.specs.Timing.{Ticked}
 use Rattle.leaves.specs.declared.timed.Timed.{Timed}
 use Rattle.leaves.specs.declared.work.Work.{Work}
 use Rattle.leaves.specs.Timed as timed
@@ -186,34 +184,3 @@ reset_kept (join k q a b) =
         both_stopped_sequence k _ _ x.order.to,
       );
     }
-
--- lower and raise, accepted or refused, by their steps
-pub lower_charged : (t : Nest) → Charged (lower_answer (nest_means t).phase) (nest_timing t) (nest_timing (drive_nest Lower t))
-lower_charged (empty p) = grind arith
-lower_charged (timed_leaf t) = grind (arith, nat_tests)
-lower_charged (work_leaf w) = grind (arith, nat_tests)
-lower_charged (join k q a b) = by q.phase
-  where
-    by : (p : Phase) → Charged (lower_answer p) (nest_timing (join k (record { phase = p; denier = q.denier }) a b))
-        (nest_timing (join k (end_lowered (record { phase = p; denier = q.denier })) a b))
-    by Run = refl
-    by Request = refl
-    by Stopped = refl
-    by Exit = refl
-    by Denied = refl
-    by Continue = refl
-
-pub raise_charged : (t : Nest) → Charged (raise_answer (nest_means t).phase) (nest_timing t) (nest_timing (drive_nest Raise t))
-raise_charged (empty p) = grind arith
-raise_charged (timed_leaf t) = grind (arith, nat_tests)
-raise_charged (work_leaf w) = grind (arith, nat_tests)
-raise_charged (join k q a b) = by q.phase
-  where
-    by : (p : Phase) → Charged (raise_answer p) (nest_timing (join k (record { phase = p; denier = q.denier }) a b))
-        (nest_timing (join k (end_raised (record { phase = p; denier = q.denier })) a b))
-    by Run = refl
-    by Request = refl
-    by Stopped = refl
-    by Exit = refl
-    by Denied = refl
-    by Continue = refl

@@ -108,10 +108,3 @@ joins_twice (body.Join k a b q) = a == b
 -- a cell of which nothing is set: a name of no byte, 12 zeros, and no device
 abbrev pub blank : Cell
 blank = record { name = name_of []; body = body.Blank }
-
--- whether two lines join a line in common
-abbrev pub shares : Body → Body → Bool
-shares body.Blank c = false
-shares (body.Timed t) c = false
-shares (body.Work v) c = false
-shares (body.Join k a b q) c = joins_line a c || joins_line b c

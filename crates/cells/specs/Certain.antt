@@ -1,16 +1,10 @@
--- What the type of a tree holds, as it stands: the wiring is certain, and so is an order of which a proof is known to exist.
-use Rattle.std.specs.Prelude.{ℕ, List}
+-- What the type of a tree holds, as it stands: an order of which a proof is known to exist.
 use Rattle.std.proofs.Props.{props}
 use Rattle.std.proofs.Math.Logic.{∥∥₁_elim}
 use Rattle.channel.specs.declared.phase.Phase.{Phase}
 use Rattle.channel.specs.declared.phase.Phase.TheVariants.{Run, Request, Stopped, Exit, Denied, Continue}
 use Rattle.joins.specs.Certain.{together_certain, sequence_certain}
-use Rattle.cells.specs.declared.cell.Cell.{Cell}
 use Rattle.cells.specs.Nests.{Nest, empty, timed_leaf, work_leaf, join, nest_means, EmptyAt, NestOrder}
-use Rattle.cells.specs.Flat.{Wired}
-
-pub Wired-prop : (n : ℕ) (cs : List Cell) → IsProp (Wired n cs)
-Wired-prop n cs = Prim.hlevel props
 
 empty_certain : (p : Phase) → ∥ EmptyAt p ∥₁ → EmptyAt p
 empty_certain Run h = tt

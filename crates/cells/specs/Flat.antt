@@ -1,10 +1,10 @@
 -- The lines of a tree in a list of cells: the two passes of a step, and the nested tree that they stand for.
-use Rattle.std.specs.Prelude.{◌≡◌, ℕ, zero, suc, ◌<◌, ◌≤◌, Bool, true, false, not, ◌&&◌, List, [], length, get_or, ◌≢◌, slice_index_or, slice_set}
+use Rattle.std.specs.Prelude.{◌≡◌, ℕ, zero, suc, ◌<◌, ◌≤◌, Bool, true, false, List, [], length, get_or, ◌≢◌, slice_index_or, slice_set}
 use Rattle.channel.specs.declared.phase.Phase.TheVariants.{Run}
 use Rattle.cells.specs.declared.cell.Body.{Body}
 use Rattle.cells.specs.declared.cell.Body.TheVariants as body
 use Rattle.cells.specs.declared.cell.Cell.{Cell}
-use Rattle.cells.specs.Bodies.{body_phase, driven_body, answered_body, reset_body, to_first, to_second, joins_line, joins_twice, shares}
+use Rattle.cells.specs.Bodies.{body_phase, driven_body, answered_body, reset_body, to_first, to_second, joins_line, joins_twice}
 use Rattle.cells.specs.Nests.{Nest, empty, timed_leaf, work_leaf, join}
 
 -- what stands past the end of the cells
@@ -103,8 +103,3 @@ pub record Wired (n : ℕ) (cs : List Cell) : Type 0 where
   pub earlier : (j k : ℕ) → j < n → joins_line k (body_at cs j) ≡ true → k < j
   pub apart : (j : ℕ) → j < n → joins_twice (body_at cs j) ≡ false
   pub once : (i j k : ℕ) → i < j → j < n → joins_line k (body_at cs i) ≡ true → joins_line k (body_at cs j) ≢ true
-
--- whether a line shares no joined line with any of the first n
-unfoldable pub none_share : List Cell → Body → ℕ → Bool
-none_share cs b zero = true
-none_share cs b (suc n) = not (shares (body_at cs n) b) && none_share cs b n

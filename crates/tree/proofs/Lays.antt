@@ -1,8 +1,7 @@
 -- A laid topology: cells one after another, wired as the topology is, each line as after a reset.
-use Rattle.std.proofs.Common.{◌≡◌, ℕ, ◌+◌, ◌<◌, ◌≤◌, true, false, ◌||◌, eqb, ◌≢◌, ◌⊎◌, List, length, set, Ok, Err, Result, sym, refl, ap, ◌∙◌, subst, inl, inr, arith, get_or-set_other, get_or-set_same, below_more}
+use Rattle.std.proofs.Common.{◌≡◌, ℕ, ◌<◌, ◌≤◌, true, false, ◌||◌, eqb, ◌⊎◌, List, length, sym, refl, ap, ◌∙◌, subst, inl, inr, arith}
 use Rattle.std.proofs.lemmas.Bool.{both_ways, ne_eqb, eqb-true, or_cases}
 use Rattle.std.proofs.lemmas.Option.{slice_get-get_or}
-use Rattle.topology.specs.declared.fault.Fault.{Fault}
 use Rattle.leaves.specs.declared.timed.Timed.{Timed}
 use Rattle.leaves.specs.Timed as timed
 use Rattle.topology.specs.declared.node.Node.{Node}
@@ -14,17 +13,9 @@ use Rattle.cells.specs.declared.cell.Body.{Body}
 use Rattle.cells.specs.declared.cell.Body.TheVariants as body
 use Rattle.cells.specs.declared.cell.Cell.{Cell}
 use Rattle.cells.specs.Bodies.{reset_body, joins_line, joins_twice}
-use Rattle.cells.specs.Flat.{absent, at, body_at, is_blank, Wired}
+use Rattle.cells.specs.Flat.{at, body_at, is_blank, Wired}
 use Rattle.cells.proofs.Calls.{ResetAll}
-use Rattle.tree.specs.Loads.{tag_of, Fresh, LineIs, Laid, AllBlank, LoadedAs}
-
--- one cell more
-pub set_more : (P : ℕ → Cell → Type 0) (cs : List Cell) (i : ℕ) (x : Cell) → i < length cs
-    → ((k : ℕ) → k < i → P k (at cs k)) → P i x → (k : ℕ) → k < i + 1 → P k (at (set cs i x) k)
-set_more P cs i x h below here =
-    below_more (λ k. P k (at (set cs i x) k)) i
-    (λ k l. let ne : k ≢ i = omega arith in subst (P k) (sym (get_or-set_other cs i k x absent ne)) (below k l))
-    (subst (P i) (sym (get_or-set_same cs i x absent h)) here)
+use Rattle.tree.specs.Loads.{tag_of, Fresh, LineIs, Laid}
 
 either_below : (n k x y : ℕ) → (x < n) × (y < n) → (eqb x k || eqb y k) ≡ true → k < n
 either_below n k x y j e = by (or_cases (eqb x k) (eqb y k) e)
@@ -90,25 +81,3 @@ laid_reset ns cs f l = record {
   done = λ i h. fresh_reset _ _ _ (line_at ns cs l f i h);
   rest = λ i h. refl;
 }
-
--- a text that was read, by what it reads as
-pub record ReadAs (o : Result (List Node) Fault) (ns : List Node) (cs : List Cell) : Type 0 where
-  pub reads : o ≡ Ok ns
-  pub well_formed : WellFormed ns
-  pub fits : length ns ≤ length cs
-  pub laid : Laid ns cs
-
-pub loaded_lines : (o : Result (List Node) Fault) (ns : List Node) (cs : List Cell) → ReadAs o ns cs → LoadedAs o (length ns) cs
-loaded_lines o ns cs r = subst (λ z. LoadedAs z (length ns) cs) (sym r.reads) (refl, r.laid)
-
-pub none_wired : (cs : List Cell) → Wired 0 cs
-none_wired cs = record {
-  fits = omega arith;
-  filled = λ j h. let z : ⊥ = omega arith in elim z [ ];
-  earlier = λ j k h e. let z : ⊥ = omega arith in elim z [ ];
-  apart = λ j h. let z : ⊥ = omega arith in elim z [ ];
-  once = λ i j k lt h x y. omega arith;
-}
-
-pub refused_lines : (o : Result (List Node) Fault) (f : Fault) (cs : List Cell) → o ≡ Err f → AllBlank cs → LoadedAs o 0 cs
-refused_lines o f cs e b = subst (λ z. LoadedAs z 0 cs) (sym e) (refl, b)

@@ -1,6 +1,5 @@
 -- A tree whose top is a join shows what is so, as the library's join does.
 use Rattle.std.proofs.Common.{◌≡◌, ℕ, zero, suc, Bool, true, false, List, Some, None, Option, sym, refl, ap, ◌∙◌, subst}
-use Rattle.std.proofs.lemmas.Bool.{both_ways}
 use Rattle.channel.specs.declared.phase.Phase.{Phase}
 use Rattle.channel.specs.declared.device.Call.{Call}
 use Rattle.channel.specs.declared.device.Call.TheVariants as call
@@ -8,14 +7,14 @@ use Rattle.channel.specs.Means.{Means}
 use Rattle.channel.specs.Calls.{Reset}
 use Rattle.joins.specs.declared.rules.Drive.{Drive}
 use Rattle.joins.specs.declared.rules.Drive.TheVariants.{Nothing, Lower, Raise}
-use Rattle.pile.specs.Views.{q_end, shows, Opened, Truly, Begun}
+use Rattle.pile.specs.Views.{q_end, shows, Opened, Begun}
 use Rattle.pile.specs.declared.own.QCall.{QCall}
 use Rattle.pile.specs.declared.own.QCall.TheVariants as own
 use Rattle.words.specs.declared.short.Short.{Short}
 use Rattle.pile.specs.Calls.{other, Called, Timed}
 use Rattle.pile.specs.OfQ.{q_view, q_kind, q_makes}
-use Rattle.pile.specs.Runs.{Fit, Linked}
-use Rattle.cells.specs.Nests.{Nest, empty, timed_leaf, work_leaf, join, nest_means, NestOrder, drive_nest, turn, reset_nest, nest_after}
+use Rattle.pile.specs.Runs.{Linked}
+use Rattle.cells.specs.Nests.{Nest, empty, timed_leaf, work_leaf, join, drive_nest, turn, reset_nest, nest_after}
 use Rattle.cells.specs.declared.cell.Body.{Body}
 use Rattle.cells.specs.declared.cell.Body.TheVariants as body
 use Rattle.cells.specs.declared.cell.Cell.{Cell}

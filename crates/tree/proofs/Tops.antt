@@ -1,9 +1,9 @@
 -- The calls of a tree, from the laws of the nested tree and of the cells.
-use Rattle.std.proofs.Common.{◌≡◌, ℕ, zero, suc, ◌-◌, ◌<◌, Bool, true, false, cond, ◌≤◌, ◌⊎◌, List, length, set, get_or, Some, None, Option, Ok, Err, sym, refl, ap, ◌∙◌, subst, inl, inr, arith}
-use Rattle.std.proofs.lemmas.Bool.{cond-true, cond-false}
+use Rattle.std.proofs.Common.{◌≡◌, ℕ, zero, suc, ◌-◌, ◌<◌, Bool, true, false, cond, ◌≤◌, List, length, set, get_or, Some, None, Option, sym, refl, ap, ◌∙◌, subst, arith}
+use Rattle.std.proofs.lemmas.Bool.{cond-false}
 use Rattle.std.proofs.lemmas.List.{get_or_default}
 use Rattle.channel.specs.declared.phase.Phase.{Phase}
-use Rattle.channel.specs.declared.phase.Phase.TheVariants.{Run, Stopped, Denied}
+use Rattle.channel.specs.declared.phase.Phase.TheVariants.{Stopped}
 use Rattle.joins.specs.declared.rules.Drive.{Drive}
 use Rattle.joins.specs.declared.rules.Drive.TheVariants.{Nothing, Lower, Raise}
 use Rattle.cells.specs.declared.cell.Body.{Body}
@@ -15,12 +15,11 @@ use Rattle.cells.proofs.Calls.{top_drives, driven_wired, reset_all, nest_resets}
 use Rattle.cells.proofs.Same.{nest_phase, nest_denier, top_steps}
 use Rattle.channel.specs.declared.device.Call.{Call}
 use Rattle.channel.specs.declared.device.Call.TheVariants as call
-use Rattle.channel.specs.Calls.{lower_answer, raise_answer, Lowered, Raised, Stepped, Reset}
-use Rattle.channel.specs.declared.device.Refusal.TheVariants.{LowerNotAtRun, RaiseNotHeld}
-use Rattle.channel.specs.Timing.{Charged, Ticked}
+use Rattle.channel.specs.Calls.{Lowered, Stepped, Reset}
+use Rattle.channel.specs.Timing.{Ticked}
 use Rattle.cells.specs.Nests.{nest_timing, NestOrder, timed_leaf, work_leaf, join, nest_after}
 use Rattle.cells.proofs.Leaf.{timed_lower_refused, timed_raise_refused, work_lower_refused, work_raise_refused}
-use Rattle.cells.proofs.Nested.{drive_kept, turn_kept, reset_kept, lower_charged, raise_charged}
+use Rattle.cells.proofs.Nested.{drive_kept, turn_kept, reset_kept}
 use Rattle.topology.specs.declared.node.Node.{Node}
 use Rattle.topology.specs.Trees.{WellFormed}
 use Rattle.tree.specs.declared.state.Tree.{Tree}
@@ -131,17 +130,8 @@ tree_made c t u e f g l = record {
 
 -- the trait's clauses, from the nested tree
 module _ (t u : Tree) where
-  pub lower_order : TreeMade call.Lower t u → Lowered (tree_means t) (tree_means u)
-  lower_order m = subst (λ n. Lowered (tree_means t) (nest_means n)) (sym m.nested) (drive_kept Lower (tree_nest t) (tree_order t)).drove
-
-  pub raise_order : TreeMade call.Raise t u → Raised (tree_means t) (tree_means u)
-  raise_order m = subst (λ n. Raised (tree_means t) (nest_means n)) (sym m.nested) (drive_kept Raise (tree_nest t) (tree_order t)).drove
-
-  pub lower_pace : TreeMade call.Lower t u → Charged (lower_answer (tree_means t).phase) (tree_timing t) (tree_timing u)
-  lower_pace m = subst (λ n. Charged (lower_answer (tree_means t).phase) (tree_timing t) (nest_timing n)) (sym m.nested) (lower_charged (tree_nest t))
-
-  pub raise_pace : TreeMade call.Raise t u → Charged (raise_answer (tree_means t).phase) (tree_timing t) (tree_timing u)
-  raise_pace m = subst (λ n. Charged (raise_answer (tree_means t).phase) (tree_timing t) (nest_timing n)) (sym m.nested) (raise_charged (tree_nest t))
+  pub lower_order : tree_nest u ≡ drive_nest Lower (tree_nest t) → Lowered (tree_means t) (tree_means u)
+  lower_order e = subst (λ n. Lowered (tree_means t) (nest_means n)) (sym e) (drive_kept Lower (tree_nest t) (tree_order t)).drove
 
   -- a step drives nothing at the top first
   undriven : (n : Nest) → drive_nest Nothing n ≡ n
@@ -204,33 +194,6 @@ lower_stays t e = tree_made call.Lower t t refl (sym (cond-false (lowers (tree_n
 pub raise_stays : (t : Tree) → raises (tree_nest t) ≡ false → TreeMade call.Raise t t
 raise_stays t e = tree_made call.Raise t t refl (sym (cond-false (raises (tree_nest t)) _ _ e)) (sym (cond-false (raises (tree_nest t)) _ _ e)) refl
 
--- an accepted lower or raise is a drive of the top
-pub lower_made : (t u : Tree) → lowers (tree_nest t) ≡ true → Driven Lower t u → TreeMade call.Lower t u
-lower_made t u e d =
-    tree_made call.Lower t u d.count (d.cells ∙ sym (cond-true (lowers (tree_nest t)) _ _ e)) (d.own ∙ sym (cond-true (lowers (tree_nest t)) _ _ e)) d.lent
-
-pub raise_made : (t u : Tree) → raises (tree_nest t) ≡ true → Driven Raise t u → TreeMade call.Raise t u
-raise_made t u e d =
-    tree_made call.Raise t u d.count (d.cells ∙ sym (cond-true (raises (tree_nest t)) _ _ e)) (d.own ∙ sym (cond-true (raises (tree_nest t)) _ _ e)) d.lent
-
-pub lower_bound : (t u : Tree) → TreeMade call.Lower t u → lower_answer (tree_means t).phase ≡ Ok tt → (tree_timing u).bound ≡ (tree_timing t).bound
-lower_bound t u m e = subst (λ r. Charged r (tree_timing t) (tree_timing u)) e (lower_pace t u m)
-
-pub raise_bound : (t u : Tree) → TreeMade call.Raise t u → raise_answer (tree_means t).phase ≡ Ok tt → (tree_timing u).bound ≡ (tree_timing t).bound
-raise_bound t u m e = subst (λ r. Charged r (tree_timing t) (tree_timing u)) e (raise_pace t u m)
-
--- lower is accepted at Run
-pub lower_err : (p q : Phase) → p ≡ q → (p ≡ Run → ⊥) → lower_answer q ≡ Err LowerNotAtRun
-lower_err p q e n = grind arith
-
-pub raise_err : (p q : Phase) → p ≡ q → (p ≡ Stopped → ⊥) → (p ≡ Denied → ⊥) → raise_answer q ≡ Err RaiseNotHeld
-raise_err p q e n m = grind arith
-
--- raise is accepted at Stopped and at Denied
-pub raise_ok : (p q : Phase) → p ≡ q → (p ≡ Stopped) ⊎ (p ≡ Denied) → raise_answer q ≡ Ok tt
-raise_ok p q e (inl i) = ap raise_answer (sym e ∙ i)
-raise_ok p q e (inr i) = ap raise_answer (sym e ∙ i)
-
 -- a tree whose lines are as after a reset is its own reset
 pub fresh_nested : (n : ℕ) (cs : List Cell) → Wired n cs → ((i : ℕ) → i < n → body_at cs i ≡ reset_body (body_at cs i))
     → top n Stopped cs ≡ reset_nest (top n Stopped cs)
@@ -250,3 +213,7 @@ laid_at m ns cs e w f l = subst (λ n. Wired n cs) (sym e) (laid_wired ns cs w f
 pub laid_fresh : (m : ℕ) (ns : List Node) (cs : List Cell) → m ≡ length ns → WellFormed ns → length ns ≤ length cs → Laid ns cs
     → top m Stopped cs ≡ reset_nest (top m Stopped cs)
 laid_fresh m ns cs e w f l = fresh_nested m cs (laid_at m ns cs e w f l) (λ i h. (laid_reset ns cs f l).done i (omega arith))
+
+pub laid_order : (m : ℕ) (ns : List Node) (cs : List Cell) → m ≡ length ns → WellFormed ns → length ns ≤ length cs → Laid ns cs
+    → Reset (nest_means (top m Stopped cs)) (nest_means (top m Stopped cs)) × NestOrder (top m Stopped cs)
+laid_order m ns cs e w f l = fresh_reset (top m Stopped cs) (laid_fresh m ns cs e w f l)

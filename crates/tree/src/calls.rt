@@ -51,23 +51,15 @@ impl QDevice for Tree<'_> {
     }
 
     fn lower(&mut self) -> Result<(), Refusal> {
-        match self.phase() {
-            Phase::Run => {
-                self.drive_top(Drive::Lower);
-                Ok(())
-            }
-            _ => Err(Refusal::LowerNotAtRun),
-        }
+        self.end().lower()?;
+        self.drive_top(Drive::Lower);
+        Ok(())
     }
 
     fn raise(&mut self) -> Result<(), Refusal> {
-        match self.phase() {
-            Phase::Stopped | Phase::Denied => {
-                self.drive_top(Drive::Raise);
-                Ok(())
-            }
-            _ => Err(Refusal::RaiseNotHeld),
-        }
+        self.end().raise()?;
+        self.drive_top(Drive::Raise);
+        Ok(())
     }
 
     fn step(&mut self) {
