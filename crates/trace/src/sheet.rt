@@ -16,7 +16,7 @@ pub struct Sheet<'o> {
     at: usize,
 }
 
-// Whether the parts and one byte more have room.
+// Whether the parts and one byte more have room. It counts down, since their whole length may not fit.
 fn fits(room: usize, parts: &[&[u8]]) -> bool
     ensures { result ≡ nat_lt (length (flat_map (λ p. p.now) parts.now)) room }
 {

@@ -4,7 +4,7 @@ ghost use Rattle.trace.specs.Texts.{levels_text};
 
 use channel::phase::Phase;
 
-// QREQn, QACCEPTn, QDENY.
+// QREQn, QACCEPTn, QDENY: fixed bytes, as the format has them; of any lifetime, to stand among a line's parts.
 pub fn level_bytes<'l>(phase: Phase) -> &'l [u8]
     ensures { result.now ≡ levels_text phase }
 {
