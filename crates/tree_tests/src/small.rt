@@ -9,7 +9,7 @@ use tree::state::Tree;
 
 // A load's answer, with the number and the line of a fault.
 fn told(answer: Result<(), Fault>) -> Result<(), (u8, u8)> {
-    answer.map_err(|fault| (fault.number(), fault.line()))
+    answer.map_err(|fault| (u8::from(fault), fault.line()))
 }
 
 fn steps(tree: &mut Tree<'_>, n: u8) {

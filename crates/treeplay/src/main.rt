@@ -58,8 +58,7 @@ fn main(rt: HostRuntime) -> io::Result<()> {
     let mut cells = [Cell::blank(); 8];
     let mut tree = Tree::new(&mut cells);
     if let Err(fault) = tree.load(TEXT) {
-        let (number, line) = (fault.number(), fault.line());
-        return println!(rt; "fault {number} line {line}");
+        return println!(rt; "{fault}");
     }
     println!(rt; "call   cpu dma mem masters top")?;
     let [lower, raise, step] = [QCall::Lower, QCall::Raise, QCall::Step].map(TreeCall::Own);
