@@ -12,7 +12,8 @@ use leaves::timed::Timed;
 use leaves::work::Work;
 use words::name::Name;
 
-// The device of a line. A join has its two devices' lines, counted from 0, and its own end.
+// The device of a line. A join has its two devices' lines, counted from 0, and its own end: numbers and no boxes,
+// since a tree lies in the cells that it is given, with no heap.
 #[derive(Clone, Copy)]
 pub enum Body {
     Blank,

@@ -57,6 +57,7 @@ pub fn answer_devices<W: Witness>(cells: &mut [Cell], i: usize, witness: &mut W)
 }
 
 // One step of the first n lines: lines from last to first drive, lines from first to last answer.
+// By number, since a line drives cells before it and reads them when it answers.
 pub fn step_seen<W: Witness>(cells: &mut [Cell], n: usize, witness: &mut W)
     ensures cells { cells.new ≡ stepped n cells.old }
     ensures seen { W.saw (name_at cells.old) (step_edges n cells.old) witness.old witness.new }

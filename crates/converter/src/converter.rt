@@ -123,12 +123,11 @@ impl<D: QDevice> Converter<D> {
     {
         let from = self.phase;
         let task = task_for(from, self.state.into(), self.asked.into());
-        let noted = self.denier.is_some();
-        let before = self.device.phase();
-        make_drive(&mut self.device, drive_for(task, noted, before));
+        let drive = drive_for(task, self.denier, self.device.phase());
+        make_drive(&mut self.device, drive);
         self.device.step();
         self.denier = note_for(task, self.denier, heard_of(self.device.end()));
-        self.phase = next_phase(from, task, self.denier.is_some(), self.device.phase());
+        self.phase = next_phase(from, task, self.denier, self.device.phase());
         self.state = next_state(from, self.phase, self.state, self.asked);
     }
 

@@ -1,5 +1,5 @@
 // The rules of a converter: power states, what a step is for, drives, notes and decisions.
-ghost use Rattle.std.specs.Prelude.{◌≡◌};
+ghost use Rattle.std.specs.Prelude.{◌≡◌, is_some};
 ghost use Rattle.converter.specs.Rules.{mode_of, task_of, task_drive, task_note, next_phase, next_state};
 
 use channel::phase::Phase;
@@ -14,8 +14,8 @@ pub enum Mode {
     Run,
 }
 
-// Of the states 0 to 15, 0 is one to stop in, 8 one to run in, and the rest are unused. Each number
-// has a mode, since a converter in no order may hold any.
+// Of the states 0 to 15, 0 is one to stop in, 8 one to run in, and the rest are unused. A state is a number
+// of the P-Channel, used or not, so this is no TryFrom.
 impl From<u8> for Mode {
     ghost from_gives = { λ state mode. mode ≡ mode_of state };
 
@@ -49,12 +49,12 @@ pub fn task_for(phase: PPhase, state: Mode, asked: Mode) -> Task
 }
 
 // What the device is driven to, from its phase before the step.
-pub fn drive_for(task: Task, noted: bool, device: Phase) -> Drive
-    ensures { result ≡ task_drive task noted device }
+pub fn drive_for(task: Task, denier: Option<u32>, device: Phase) -> Drive
+    ensures { result ≡ task_drive task (is_some denier) device }
 {
-    match (task, noted, device) {
-        (Task::Stopping, false, Phase::Run) => Drive::Lower,
-        (Task::Stopping, true, Phase::Denied) => Drive::Raise,
+    match (task, denier, device) {
+        (Task::Stopping, None, Phase::Run) => Drive::Lower,
+        (Task::Stopping, Some(_), Phase::Denied) => Drive::Raise,
         (Task::Waking, _, Phase::Stopped) => Drive::Raise,
         _ => Drive::Nothing,
     }
@@ -72,13 +72,13 @@ pub fn note_for(task: Task, denier: Option<u32>, told: Option<u32>) -> Option<u3
 }
 
 // Where the converter goes, from the device's phase after its step.
-pub fn next_phase(phase: PPhase, task: Task, noted: bool, device: Phase) -> PPhase
-    ensures { result ≡ next_phase phase task noted device }
+pub fn next_phase(phase: PPhase, task: Task, denier: Option<u32>, device: Phase) -> PPhase
+    ensures { result ≡ next_phase phase task (is_some denier) device }
 {
     match (phase, task, device) {
         (PPhase::Request, Task::Same, _) => PPhase::Accept,
         (PPhase::Request, Task::Stopping, Phase::Stopped) => PPhase::Accept,
-        (PPhase::Request, Task::Stopping, Phase::Run) if noted => PPhase::Denied,
+        (PPhase::Request, Task::Stopping, Phase::Run) if denier.is_some() => PPhase::Denied,
         (PPhase::Request, Task::Waking, Phase::Run) => PPhase::Accept,
         (PPhase::Complete | PPhase::Continue, _, _) => PPhase::Stable,
         _ => phase,

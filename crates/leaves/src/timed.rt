@@ -29,6 +29,7 @@ impl Timed {
 
     // A leaf that answers a request at step D, leaves Exit at step E, and denies
     // every K-th accepted lower, none with K of 0. D and E of 0 become 1. It starts at Stopped.
+    #[tactic(auto, using(crate::proofs::Cadence::denies_every))]
     pub fn new(tag: u32, d: u8, e: u8, k: u8) -> Self
         ensures made { result ≡ made tag result.delays k }
         ensures delays { (result.delays.answer ≡ max d 1) × (result.delays.wake ≡ max e 1) }

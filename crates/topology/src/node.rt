@@ -5,7 +5,7 @@ ghost use Rattle.topology.specs.Nodes.{called, part_joins};
 
 use words::name::Name;
 
-// What a line is. `first` and `second` are lines counted from 0.
+// What a line is. `first` and `second` are lines counted from 0: numbers and no boxes, since nothing here takes heap.
 // The two joins stay two cases: one case with a kind needs a third enum beside the kinds of lines and of joins.
 #[derive(Clone, Copy, PartialEq, Eq, Debug)]
 pub enum Part {

@@ -15,7 +15,7 @@ invariant_of-self g c =
     let t : c.heard_of.result ≡ heard (md c.step.new.self).phase (md c.step.new.self).denier = rw (c.heard_of.ensures, c.end.ensures) in
     let n : c.note_for-self.result ≡ task_note k b.denier (heard (md c.step.new.self).phase (md c.step.new.self).denier) = cc in
     let law = steps md g.D.QDevice.timing g.met.D.QDevice.in_order b.phase b.state b.asked b.denier b.device c.make_drive.new.device c.step.new.self
-    c.drive_for.result c.next_phase-self.result c.next_state-self.result b.asked c.note_for-self.result (held b)
+    c.drive_for-drive.result c.next_phase-self.result c.next_state-self.result b.asked c.note_for-self.result (held b)
     (cc) d.order d.idle d.bound z.order z.pace n (cc) (cc) refl in
     record { over = ∣ law.over ∣₁ }
 
@@ -29,6 +29,6 @@ returns-clause-linked g c =
     let t : c.heard_of.result ≡ heard (md c.step.new.self).phase (md c.step.new.self).denier = rw (c.heard_of.ensures, c.end.ensures) in
     let n : c.note_for-self.result ≡ task_note k b.denier (heard (md c.step.new.self).phase (md c.step.new.self).denier) = cc in
     let law = steps md g.D.QDevice.timing g.met.D.QDevice.in_order b.phase b.state b.asked b.denier b.device c.make_drive.new.device c.step.new.self
-    c.drive_for.result c.next_phase-self.result c.next_state-self.result b.asked c.note_for-self.result (held b)
+    c.drive_for-drive.result c.next_phase-self.result c.next_state-self.result b.asked c.note_for-self.result (held b)
     (cc) d.order d.idle d.bound z.order z.pace n (cc) (cc) refl in
     record { called = law.seen; timed = law.pace; fit = converter_fits g.met.D.QDevice.in_order _ }
