@@ -3,64 +3,52 @@ use cells::cell::Cell;
 use channel::device::QDevice;
 use channel::phase::Phase;
 use std::alloc::{AllocError, Global};
+use std::fmt;
 use std::test::Fail;
 use tree::state::Tree;
 
-fn put(v: &mut Vec<u8>, text: &[u8]) -> Result<(), AllocError> {
-    for b in text {
-        v.push(*b)?;
-    }
-    Ok(())
-}
+// The name of one of many lines: a letter, and the number in two letters.
+#[derive(Clone, Copy)]
+struct Named(char, u8);
 
-fn put_name(v: &mut Vec<u8>, letter: u8, k: u8) -> Result<(), AllocError> {
-    v.push(letter)?;
-    v.push(b'a' + k / 26)?;
-    v.push(b'a' + k % 26)?;
-    Ok(())
+impl fmt::Display for Named {
+    fn fmt<W: fmt::Write>(&self, f: &mut fmt::Formatter<W>) -> fmt::Result {
+        let Named(letter, k) = *self;
+        let (high, low) = (char::from(b'a' + k / 26), char::from(b'a' + k % 26));
+        write!(f, "{letter}{high}{low}")
+    }
 }
 
 // A leaf, and 63 times one leaf more and a join of all before with it.
-fn chain(heap: Global, join: &[u8]) -> Result<Vec<u8>, AllocError> {
-    let mut v = Vec::new(heap);
-    put(&mut v, b"timed x 1 1 1\n")?;
+fn chain(heap: Global, join: &str) -> Result<String, AllocError> {
+    let mut text = String::from_str(heap, "timed x 1 1 1\n")?;
     for k in 0..63u8 {
-        put(&mut v, b"timed ")?;
-        put_name(&mut v, b'l', k)?;
-        put(&mut v, b" 1 1 0\n")?;
-        put(&mut v, join)?;
-        put_name(&mut v, b'j', k)?;
-        if k == 0 {
-            put(&mut v, b" x ")?;
-        } else {
-            v.push(b' ')?;
-            put_name(&mut v, b'j', k - 1)?;
-            v.push(b' ')?;
+        let (leaf, joined) = (Named('l', k), Named('j', k));
+        write!(text, "timed {leaf} 1 1 0\n{join} {joined} ")?;
+        match k.checked_sub(1) {
+            Some(before) => write!(text, "{}", Named('j', before))?,
+            None => write!(text, "x")?,
         }
-        put_name(&mut v, b'l', k)?;
-        v.push(b'\n')?;
+        writeln!(text, " {leaf}")?;
     }
-    Ok(v)
+    Ok(text)
 }
 
 // 64 leaves, then joins of two lines each, up to one.
-fn wide(heap: Global) -> Result<Vec<u8>, AllocError> {
-    let mut v = Vec::new(heap);
+fn wide(heap: Global) -> Result<String, AllocError> {
+    let mut text = String::new(heap);
     for k in 0..64u8 {
-        put(&mut v, b"timed ")?;
-        put_name(&mut v, b'l', k)?;
-        put(&mut v, b" 3 2 1\n")?;
+        writeln!(text, "timed {} 3 2 1", Named('l', k))?;
     }
     for k in 0..63u8 {
-        put(&mut v, b"dist ")?;
-        put_name(&mut v, b'l', 64 + k)?;
-        v.push(b' ')?;
-        put_name(&mut v, b'l', 2 * k)?;
-        v.push(b' ')?;
-        put_name(&mut v, b'l', 2 * k + 1)?;
-        v.push(b'\n')?;
+        let (joined, first, second) = (
+            Named('l', 64 + k),
+            Named('l', 2 * k),
+            Named('l', 2 * k + 1),
+        );
+        writeln!(text, "dist {joined} {first} {second}")?;
     }
-    Ok(v)
+    Ok(text)
 }
 
 // Steps while the tree stays in its phase; tells how many it took.
@@ -78,10 +66,10 @@ fn until_moved(tree: &mut Tree<'_>, most: u16) -> u16 {
 // The leaf denies at step 1; the join over it is at Denied at step 2, and each one above a step later.
 #[test]
 fn deep_distributors(rt: HostRuntime) -> Result<(), Fail> {
-    let text = chain(rt.alloc(), b"dist ")?;
+    let text = chain(rt.alloc(), "dist")?;
     let mut cells = [Cell::blank(); 127];
     let mut tree = Tree::new(&mut cells);
-    assert!(rt; tree.load(text.as_slice()).is_ok());
+    assert!(rt; tree.load(text.as_bytes()).is_ok());
     assert_eq!(rt; (tree.len(), tree.is_pile()), (127, true));
     let _ = tree.raise();
     assert_eq!(rt;
@@ -96,10 +84,10 @@ fn deep_distributors(rt: HostRuntime) -> Result<(), Fail> {
 
 #[test]
 fn deep_sequencers(rt: HostRuntime) -> Result<(), Fail> {
-    let text = chain(rt.alloc(), b"seq ")?;
+    let text = chain(rt.alloc(), "seq")?;
     let mut cells = [Cell::blank(); 127];
     let mut tree = Tree::new(&mut cells);
-    assert!(rt; tree.load(text.as_slice()).is_ok());
+    assert!(rt; tree.load(text.as_bytes()).is_ok());
     let _ = tree.raise();
     assert_eq!(rt;
         (until_moved(&mut tree, 1000), tree.phase()),
@@ -116,7 +104,7 @@ fn wide_tree(rt: HostRuntime) -> Result<(), Fail> {
     let text = wide(rt.alloc())?;
     let mut cells = [Cell::blank(); 127];
     let mut tree = Tree::new(&mut cells);
-    assert!(rt; tree.load(text.as_slice()).is_ok());
+    assert!(rt; tree.load(text.as_bytes()).is_ok());
     let _ = tree.raise();
     assert_eq!(rt;
         (until_moved(&mut tree, 100), tree.phase()),

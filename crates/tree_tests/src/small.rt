@@ -3,15 +3,13 @@ use cells::cell::Cell;
 use channel::device::QDevice;
 use channel::phase::Phase;
 use leaves::worker::JobRefusal;
+use pile::own::{QCall, own_call};
 use topology::fault::Fault;
 use tree::state::Tree;
 
-// The number and the line of a load's fault; 0 and 0 where it is accepted.
-fn told(answer: Result<(), Fault>) -> (u8, u8) {
-    match answer {
-        Ok(()) => (0, 0),
-        Err(fault) => (fault.number(), fault.line()),
-    }
+// A load's answer, with the number and the line of a fault.
+fn told(answer: Result<(), Fault>) -> Result<(), (u8, u8)> {
+    answer.map_err(|fault| (fault.number(), fault.line()))
 }
 
 fn steps(tree: &mut Tree<'_>, n: u8) {
@@ -37,14 +35,14 @@ fn empty_tree_with_no_cell(rt: HostRuntime) {
     tree.step();
     assert_eq!(rt; (tree.phase(), tree.denier()), (Phase::Stopped, None));
     assert_eq!(rt; tree.job(b"", 1), Err(JobRefusal::NoWorkLeaf));
-    assert_eq!(rt; told(tree.load(b"work a 1\n")), (12, 0));
+    assert_eq!(rt; told(tree.load(b"work a 1\n")), Err((12, 0)));
 }
 
 #[test]
 fn one_leaf(rt: HostRuntime) {
     let mut cells = [Cell::blank(); 2];
     let mut tree = Tree::new(&mut cells);
-    assert_eq!(rt; told(tree.load(b"timed a 2 1 1\n")), (0, 0));
+    assert_eq!(rt; told(tree.load(b"timed a 2 1 1\n")), Ok(()));
     assert_eq!(rt; (tree.len(), tree.is_pile()), (1, false));
     let _ = tree.raise();
     tree.step();
@@ -67,9 +65,9 @@ fn refused_loads(rt: HostRuntime) {
         (b"work a 1\nwork b 1\n", 11, 1),
     ];
     for (text, number, line) in table {
-        assert_eq!(rt; told(tree.load(b"work a 1\nwork b 1\nseq t a b\n")), (0, 0));
+        assert_eq!(rt; told(tree.load(b"work a 1\nwork b 1\nseq t a b\n")), Ok(()));
         assert_eq!(rt; (tree.len(), tree.is_pile()), (3, true));
-        assert_eq!(rt; told(tree.load(text)), (number, line));
+        assert_eq!(rt; told(tree.load(text)), Err((number, line)));
         assert_eq!(rt;
             (tree.len(), tree.phase(), tree.is_pile()),
             (0, Phase::Stopped, false)
@@ -83,31 +81,31 @@ fn reset_in_each_phase(rt: HostRuntime) {
     let mut cells = [Cell::blank(); 3];
     let mut tree = Tree::new(&mut cells);
     let _ = tree.load(b"timed a 2 2 1\ntimed b 1 1 0\ndist t a b\n");
-    let table = [
-        (0u8, 0u8, Phase::Exit),
-        (2, 0, Phase::Run),
-        (2, 1, Phase::Request),
-        (2, 4, Phase::Denied),
-        (2, 5, Phase::Continue),
+    let (lower, raise, step) = (QCall::Lower, QCall::Raise, QCall::Step);
+    let table: [(&[QCall], Phase); 5] = [
+        (&[raise], Phase::Exit),
+        (&[raise, step, step], Phase::Run),
+        (&[raise, step, step, lower], Phase::Request),
+        (&[raise, step, step, lower, step, step, step], Phase::Denied),
+        (
+            &[raise, step, step, lower, step, step, step, raise],
+            Phase::Continue,
+        ),
     ];
-    for (up, down, phase) in table {
-        let _ = tree.raise();
-        steps(&mut tree, up);
-        if down > 0 {
-            let _ = tree.lower();
-            steps(&mut tree, down.min(4) - 1);
-        }
-        if down == 5 {
-            let _ = tree.raise();
+    for (calls, phase) in table {
+        for call in calls {
+            let _ = own_call(&mut tree, *call);
         }
         assert_eq!(rt; tree.phase(), phase);
         tree.reset();
         assert_eq!(rt; (tree.phase(), tree.denier()), (Phase::Stopped, None));
-        for i in 0..3usize {
-            if let Some(line) = tree.line(i) {
-                assert_eq!(rt; line.levels, (false, false, false));
-            }
+        for line in tree.lines() {
+            assert_eq!(rt; line.levels, (false, false, false));
         }
+        assert_eq!(rt;
+            (tree.line(2).is_some(), tree.line(3).is_some()),
+            (true, false)
+        );
     }
 }
 
