@@ -3,6 +3,7 @@ ghost use Rattle.std.specs.Prelude.{◌≡◌};
 ghost use Rattle.words.specs.Shorts.{short_of, short_text};
 
 // The first N bytes of a text, and of those at most 255, with zeros behind them.
+// An array with its length, since it is copied and takes no heap.
 #[derive(Clone, Copy, PartialEq, Eq, Debug)]
 pub struct Short<const N: usize> {
     bytes: [u8; N],
