@@ -18,7 +18,7 @@ pub fn body_of(cells: &[Cell], i: usize) -> Body
 pub fn put_body(cells: &mut [Cell], i: usize, body: Body)
     ensures { cells.new ≡ put cells.old i body }
 {
-    // not by get_mut: after it a proof knows the cells' number alone
+    // tried by get_mut, and not proved: after it a proof knows the cells' number alone
     if i < cells.len() {
         cells[i].body = body;
     }

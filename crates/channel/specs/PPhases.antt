@@ -1,6 +1,6 @@
 -- The phases of a P-Channel: numbers, levels, and the changes that the channel allows.
 use Rattle.std.specs.Prelude.{ℕ, Bool, true, false, ◌||◌, ◌==◌}
-use Rattle.channel.specs.Signals.{turned, TurnsOne}
+use Rattle.channel.specs.Signals.{TurnsOne}
 use Rattle.channel.specs.declared.pphase.PPhase.{PPhase}
 use Rattle.channel.specs.declared.pphase.PPhase.TheVariants.{Stable, Request, Accept, Complete, Denied, Continue}
 
@@ -32,10 +32,6 @@ p_allowed Accept q = is Complete q
 p_allowed Complete q = is Stable q
 p_allowed Denied q = is Continue q
 p_allowed Continue q = is Stable q
-
--- how many of the three signals differ between two phases
-abbrev pub p_signals : PPhase → PPhase → ℕ
-p_signals p q = turned (p_levels p) (p_levels q)
 
 -- an allowed change turns just one signal
 abbrev pub PSingle : PPhase → PPhase → Type 0

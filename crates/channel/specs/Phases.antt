@@ -1,6 +1,6 @@
 -- The phases of a Q-Channel: numbers, levels, and the changes that the channel allows.
 use Rattle.std.specs.Prelude.{ℕ, Bool, true, false, ◌||◌, ◌==◌}
-use Rattle.channel.specs.Signals.{turned, TurnsOne}
+use Rattle.channel.specs.Signals.{TurnsOne}
 use Rattle.channel.specs.declared.phase.Phase.{Phase}
 use Rattle.channel.specs.declared.phase.Phase.TheVariants.{Run, Request, Stopped, Exit, Denied, Continue}
 
@@ -32,10 +32,6 @@ allowed Stopped q = is Exit q
 allowed Exit q = is Run q
 allowed Denied q = is Continue q
 allowed Continue q = is Run q
-
--- how many of the three signals differ between two phases
-abbrev pub signals : Phase → Phase → ℕ
-signals p q = turned (levels_of p) (levels_of q)
 
 -- an allowed change turns just one signal
 abbrev pub Single : Phase → Phase → Type 0

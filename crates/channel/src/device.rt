@@ -31,7 +31,7 @@ impl From<Refusal> for u8 {
     }
 }
 
-// The calls that change a device.
+// The calls that change a device, for the contracts. A reset is none of a run, so a run has its own (`QCall`).
 #[derive(Clone, Copy, PartialEq, Eq, Debug)]
 pub enum Call {
     Lower,
@@ -58,7 +58,7 @@ pub trait QDevice {
     fn denier(&self) -> Option<u32>
         ensures { result ≡ (means self.now).denier };
 
-    // Both.
+    // Phase and denier as one.
     fn end(&self) -> QEnd
         ensures { result ≡ end_of (means self.now) }
     {

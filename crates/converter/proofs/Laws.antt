@@ -285,9 +285,6 @@ stays Stopping (Some z) r = refl
 stays ToWake (Some z) r = refl
 
 -- an accepted ask: the device is still at rest, and nobody has denied
-pub asks_over : (s a : Mode) (m : Means) → RestAt s m → (a ≡ mode.Unused → ⊥) → Asked s a None m
-asks_over s a m r u = grind arith
-
 pub asks : (s : Mode) (d : Option ℕ) (m : Means) → Sound m → RestAt s m
     → StopAsked (converter_view p.Stable s d m) (converter_view p.Request s None m)
 asks s d m o r = record {

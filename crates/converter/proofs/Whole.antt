@@ -24,7 +24,7 @@ use Rattle.converter.specs.declared.refusal.PRefusal.{PRefusal}
 use Rattle.converter.specs.Converter.{ask_answer, used_answer, drop_answer, dropped, AskMade, DropMade, Links}
 use Rattle.converter.specs.Shows.{converter_fits}
 use Rattle.converter.specs.Certain.{over_certain}
-use Rattle.converter.proofs.Laws.{next_mode, keeps_over, ticks, runs, stays, asks_over, asks}
+use Rattle.converter.proofs.Laws.{next_mode, keeps_over, ticks, runs, stays, asks}
 
 -- the mode of the next state is the next mode
 next_is : (q r : PPhase) (s a : ℕ) → mode_of (next_state q r s a) ≡ next_mode q r (mode_of s) (mode_of a)
@@ -86,26 +86,6 @@ module _ (q : PPhase) (s a n : ℕ) (d : Option ℕ) (m : Means) (o : Sound m) (
   abbrev ok : Bool
   ok = is_ok (ask_answer q n)
 
-  pub ask_over : Over (cond ok p.Request q) (mode_of s) (mode_of (cond ok n a)) (cond ok None d) m
-  ask_over = by q h
-    where
-      used : (u : Mode) → mode_of n ≡ u → RestAt (mode_of s) m
-          → Over (cond (is_ok (used_answer u)) p.Request p.Stable) (mode_of s) (mode_of (cond (is_ok (used_answer u)) n a))
-          (cond (is_ok (used_answer u)) None d) m
-      used mode.Unused e r = r
-      used mode.Stop e r = asks_over (mode_of s) (mode_of n) m r (λ i. grind arith)
-      used mode.Run e r = asks_over (mode_of s) (mode_of n) m r (λ i. grind arith)
-
-      by : (q : PPhase) → Over q (mode_of s) (mode_of a) d m
-          → Over (cond (is_ok (ask_answer q n)) p.Request q) (mode_of s) (mode_of (cond (is_ok (ask_answer q n)) n a))
-          (cond (is_ok (ask_answer q n)) None d) m
-      by p.Stable h = used (mode_of n) refl h
-      by p.Request h = h
-      by p.Accept h = h
-      by p.Complete h = h
-      by p.Denied h = h
-      by p.Continue h = h
-
   pub ask_called : Called stop ok (converter_view q (mode_of s) d m) (converter_view (cond ok p.Request q) (mode_of s) (cond ok None d) m)
   ask_called = by q h
     where
@@ -153,17 +133,6 @@ module _ (q : PPhase) (s a n : ℕ) (d : Option ℕ) (m : Means) (o : Sound m) (
 
 -- a drop, by the phase before it
 module _ (q : PPhase) (s a : Mode) (d : Option ℕ) (m : Means) (h : Over q s a d m) where
-  pub drop_over : Over (dropped q) s a d m
-  drop_over = by q h
-    where
-      by : (q : PPhase) → Over q s a d m → Over (dropped q) s a d m
-      by p.Stable h = h
-      by p.Request h = h
-      by p.Accept h = h
-      by p.Complete h = h
-      by p.Denied h = h
-      by p.Continue h = h
-
   pub drop_called : Called back (is_ok (drop_answer q)) (converter_view q s d m) (converter_view (dropped q) s d m)
   drop_called = by q
     where
@@ -189,10 +158,6 @@ module _ (q : PPhase) (s a : Mode) (d : Option ℕ) (m : Means) (h : Over q s a 
       by p.Complete = refl
       by p.Denied = refl
       by p.Continue = refl
-
--- where a run begins
-pub begins : (m : Means) → Each (λ x. x ≡ Stopped) m.leaves → Begun (converter_view p.Stable mode.Stop None m)
-begins m e = record { shows_stopped = refl; closed = λ o. o; all_stopped = e; none = refl }
 
 module _ {D : Type 0} {d : device.Ghosts D} where
   pub held : (c : Converter D d) → Over c.phase (mode_of c.state) (mode_of c.asked) c.denier (d.means c.device)

@@ -14,8 +14,9 @@ pub enum Mode {
     Run,
 }
 
-// Of the states 0 to 15, 0 is one to stop in, 8 one to run in, and the rest are unused. A state is a number
-// of the P-Channel, used or not, so this is no TryFrom.
+// Of the states 0 to 15, 0 is one to stop in, 8 one to run in, and the rest are unused. A converter keeps the
+// numbers that it was asked for and tells, and its rules go by what a number is for: with a TryFrom in their
+// place the same three cases would stand at each.
 impl From<u8> for Mode {
     ghost from_gives = { λ state mode. mode ≡ mode_of state };
 
@@ -64,10 +65,9 @@ pub fn drive_for(task: Task, denier: Option<u32>, device: Phase) -> Drive
 pub fn note_for(task: Task, denier: Option<u32>, told: Option<u32>) -> Option<u32>
     ensures { result ≡ task_note task denier told }
 {
-    if task == Task::Stopping {
-        denier.or(told)
-    } else {
-        denier
+    match task {
+        Task::Stopping => denier.or(told),
+        _ => denier,
     }
 }
 

@@ -8,3 +8,4 @@ pub mod Jobs
 pub mod Leaves
 pub mod Ordered
 pub mod Shows
+pub mod Told

@@ -1,4 +1,4 @@
-// Distributor and sequencer over any two devices. They differ in their drives alone.
+// Distributor and sequencer over any two devices. They differ in their drives, and so in their bounds.
 ghost use Rattle.joins.specs.Together.{Together, InSequence};
 
 use crate::drive::make_drive;

@@ -5,13 +5,15 @@ ghost use Rattle.joins.specs.Rules.{first_drive, second_drive, heard, noted_from
 use channel::end::QEnd;
 use channel::phase::Phase;
 
+// A tree's line has its kind as a value, so the rules match on it and are no methods of a rule's type.
 #[derive(Clone, Copy, PartialEq, Eq, Debug)]
 pub enum Kind {
     Distributor,
     Sequencer,
 }
 
-// What a join does to the channel of one of its devices.
+// What a join does to the channel of one of its devices. Three cases that all definitions go by; an Option of
+// two would name the third no plainer.
 #[derive(Clone, Copy, PartialEq, Eq, Debug)]
 pub enum Drive {
     Nothing,

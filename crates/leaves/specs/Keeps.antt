@@ -1,4 +1,4 @@
--- The calls of a timed leaf keep its steps left and its denier with its phase.
+-- The calls of a leaf keep its denier, and a timed leaf's its steps left, with the phase.
 use Rattle.std.specs.Prelude.{ℕ, Bool, Option}
 use Rattle.std.proofs.Common.{arith}
 use Rattle.std.proofs.lemmas.Bool.Decides.{nat_tests}

@@ -7,3 +7,4 @@ pub mod Ordered
 pub mod Work
 pub mod Jobs
 pub mod Pressed
+pub mod Told

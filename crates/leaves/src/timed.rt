@@ -11,7 +11,7 @@ use channel::phase::Phase;
 pub struct Timed {
     tag: u32,
     delays: Delays,
-    // every how many accepted lowers one is denied; none with 0
+    // every how many accepted lowers one is denied; none with 0, as a text gives it
     every: u8,
     // accepted lowers since making or reset, modulo `every`
     count: u8,

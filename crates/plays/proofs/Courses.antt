@@ -9,6 +9,7 @@ use Rattle.channel.specs.declared.pphase.PPhase.TheVariants as p
 use Rattle.channel.specs.Ends.{at_rest, end_lowered, end_raised}
 use Rattle.leaves.specs.declared.timed.Timed.{Timed}
 use Rattle.leaves.specs.Timed.{timed_means, timed_makes, after}
+use Rattle.leaves.specs.Told.{timed}
 use Rattle.joins.specs.declared.rule.Rule as rule
 use Rattle.joins.specs.declared.rules.Kind.{Kind}
 use Rattle.joins.specs.declared.rules.Drive.{Drive}
@@ -22,7 +23,7 @@ use Rattle.converter.specs.declared.stack.PCall.{PCall}
 use Rattle.converter.specs.declared.stack.PCall.TheVariants as ask
 use Rattle.converter.specs.Rules.{mode_of, task_of, task_drive, task_note, next_phase, next_state}
 use Rattle.converter.specs.Converter.{ask_answer, dropped, StartMade}
-use Rattle.plays.specs.Worked.{Goes, calls_in, told_in, Tells, timed, told_join, told_converter, ConverterGoes}
+use Rattle.plays.specs.Worked.{Goes, calls_in, told_in, Tells, told_join, told_converter, ConverterGoes}
 
 module _ {C P T : Type 0} (next : C → P → P) (tell : P → T) where
   abbrev pub course : P → List C → List T

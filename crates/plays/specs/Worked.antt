@@ -9,17 +9,17 @@ use Rattle.channel.specs.declared.device.Call.TheVariants.{Lower, Raise, Step}
 use Rattle.leaves.specs.declared.delays.Delays.{Delays}
 use Rattle.leaves.specs.declared.timed.Timed.{Timed}
 use Rattle.leaves.specs.declared.work.Work.{Work}
-use Rattle.channel.specs.declared.device.QDevice as device
-use Rattle.leaves.specs.Timed.{timed_means, timed_timing, timed_makes, made}
+use Rattle.leaves.specs.Timed.{timed_makes, made}
+use Rattle.leaves.specs.Told.{timed}
 use Rattle.leaves.specs.Work.{work_makes}
 use Rattle.leaves.specs.Work as work
 use Rattle.leaves.specs.Jobs.{after_add}
-use Rattle.joins.specs.declared.rules.Kind.TheVariants.{Distributor, Sequencer}
 use Rattle.joins.specs.declared.rule.Rule as rule
 use Rattle.joins.specs.declared.rule.Parallel.{Parallel}
 use Rattle.joins.specs.declared.rule.Serial.{Serial}
 use Rattle.joins.specs.declared.join.Join.{Join}
 use Rattle.joins.specs.Join.{join_makes, Made}
+use Rattle.joins.specs.Told.{parallel, serial}
 use Rattle.converter.specs.declared.converter.Converter.{Converter}
 use Rattle.converter.specs.declared.stack.PCall.{PCall}
 use Rattle.converter.specs.declared.stack.PCall.TheVariants as ask
@@ -61,16 +61,6 @@ told_phase t = t.end.phase
 -- phase, and the jobs that wait
 abbrev pub told_work : Work → Phase × ℕ
 told_work v = (v.end.phase, v.jobs)
-
--- what the trait of devices says of a timed leaf, and the trait of rules of both rules
-abbrev pub timed : device.Ghosts Timed
-timed = record { means = timed_means; timing = timed_timing; makes = timed_makes }
-
-abbrev pub parallel : rule.Ghosts Parallel
-parallel = record { KIND = Distributor }
-
-abbrev pub serial : rule.Ghosts Serial
-serial = record { KIND = Sequencer }
 
 -- phase and denier of a join of two timed leaves
 abbrev pub told_join : {R : Type 0} {r : rule.Ghosts R} → Join R Timed Timed r timed timed → Phase × Option ℕ

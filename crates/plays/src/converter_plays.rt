@@ -5,7 +5,8 @@ mod tests {
     use channel::device::QDevice;
     use channel::phase::Phase;
     use channel::pphase::PPhase;
-    use converter::converter::{Converter, PRefusal};
+    use converter::converter::Converter;
+    use converter::refusal::PRefusal;
     use converter::stack::PCall;
     use joins::join::{Distributor, Sequencer};
     use leaves::timed::Timed;

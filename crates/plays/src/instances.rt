@@ -1,4 +1,5 @@
 // The promise at piles of timed and work leaves: the premises of `play` are met, and nothing is left to assume.
+// Three functions and no generic one, since each names its pile: `play` is the generic one.
 ghost use Rattle.pile.specs.Promise.{PromisedOf};
 
 use converter::converter::Converter;

@@ -6,5 +6,6 @@ mod converter_plays;
 pub mod instances;
 mod join_plays;
 mod leaf_plays;
+#[cfg(test)]
 mod walk;
 pub mod worked;

@@ -1,41 +1,22 @@
 -- The two designs of this program: their times, the steps left, and what a step makes of them.
 use Rattle.std.specs.Prelude.{ℕ, Bool}
 use Rattle.channel.specs.declared.device.Call.TheVariants as call
-use Rattle.channel.specs.declared.device.QDevice as device
 use Rattle.channel.specs.Timing.{Timing}
 use Rattle.leaves.specs.declared.timed.Timed.{Timed}
 use Rattle.leaves.specs.declared.work.Work.{Work}
-use Rattle.leaves.specs.Timed.{timed_means, timed_timing, timed_makes}
-use Rattle.leaves.specs.Work.{work_means, work_timing, work_makes}
-use Rattle.joins.specs.declared.rules.Kind.TheVariants.{Distributor, Sequencer}
-use Rattle.joins.specs.declared.rule.Rule as rule
 use Rattle.joins.specs.declared.rule.Parallel.{Parallel}
 use Rattle.joins.specs.declared.rule.Serial.{Serial}
 use Rattle.joins.specs.declared.join.Join.{Join}
-use Rattle.joins.specs.Join.{join_means, join_time, join_makes}
+use Rattle.leaves.specs.Told.{timed, work}
+use Rattle.joins.specs.Join.{join_time, join_makes}
+use Rattle.joins.specs.Told.{parallel, serial, joined}
 use Rattle.converter.specs.declared.converter.Converter.{Converter}
 use Rattle.converter.specs.Converter.{time_of, StepMade}
 use Rattle.watch.specs.Phases.{open_test, p_open_test}
 
--- what the trait of devices says of both leaves, and the trait of rules of both rules
-abbrev pub timed : device.Ghosts Timed
-timed = record { means = timed_means; timing = timed_timing; makes = timed_makes }
-
-abbrev pub work : device.Ghosts Work
-work = record { means = work_means; timing = work_timing; makes = work_makes }
-
-abbrev pub parallel : rule.Ghosts Parallel
-parallel = record { KIND = Distributor }
-
-abbrev pub serial : rule.Ghosts Serial
-serial = record { KIND = Sequencer }
-
 -- a timed and a work leaf under a distributor
 abbrev pub Top : Type 0
 Top = Join Parallel Timed Work parallel timed work
-
-abbrev pub top : device.Ghosts Top
-top = record { means = join_means; timing = join_time; makes = join_makes }
 
 abbrev pub pair_time : Top → Timing
 pair_time d = join_time d
@@ -52,14 +33,11 @@ pair_stepped d e = join_makes call.Step d e
 
 -- such a pair before a timed leaf, under a sequencer
 abbrev pub Row : Type 0
-Row = Join Serial Top Timed serial top timed
-
-abbrev pub row : device.Ghosts Row
-row = record { means = join_means; timing = join_time; makes = join_makes }
+Row = Join Serial Top Timed serial joined timed
 
 -- and a converter over that
 abbrev pub PowerTop : Type 0
-PowerTop = Converter Row row
+PowerTop = Converter Row joined
 
 abbrev pub island_time : PowerTop → Timing
 island_time c = time_of c

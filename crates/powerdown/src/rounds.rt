@@ -8,7 +8,7 @@ use std::io;
 use watch::settle::{Watched, settle};
 use watch::tally::{Ending, Tally};
 
-// Sees a change to its end and tells how long it took.
+// Sees a change to its end and prints how long it took.
 pub fn see_through<W: Watched>(rt: &impl Print, design: &mut W, tally: &mut Tally) -> io::Result<()>
     ensures settled { OnOk result (W.changing design.new ≡ false) }
     ensures seen { OnOk result (Seen W.BOUND tally.old tally.new) }
@@ -17,7 +17,7 @@ pub fn see_through<W: Watched>(rt: &impl Print, design: &mut W, tally: &mut Tall
     println!(rt; "  settled in {taken} of at most {} steps", W::BOUND)
 }
 
-// Counts the answer of a request and tells it.
+// Counts the answer of a request and prints it.
 pub fn count_answer(rt: &impl Print, tally: &mut Tally, ending: Ending) -> io::Result<()>
     ensures { tally.new ≡ with_answer ending tally.old }
 {

@@ -37,7 +37,7 @@ impl Fault {
         }
     }
 
-    // The line from 1, and 0 for the whole text.
+    // The line from 1, and 0 for the whole text, as it is told.
     pub fn line(self) -> u8
         ensures { result ≡ (shown self).line }
     {

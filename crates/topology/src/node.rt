@@ -6,7 +6,8 @@ ghost use Rattle.topology.specs.Nodes.{called, part_joins};
 use words::name::Name;
 
 // What a line is. `first` and `second` are lines counted from 0: numbers and no boxes, since nothing here takes heap.
-// The two joins stay two cases: one case with a kind needs a third enum beside the kinds of lines and of joins.
+// The two joins stay two cases: one case with a kind needs an enum of two kinds here, as the one of joins stands
+// in a crate that knows no texts.
 #[derive(Clone, Copy, PartialEq, Eq, Debug)]
 pub enum Part {
     Timed { d: u8, e: u8, k: u8 },

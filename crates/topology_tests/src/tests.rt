@@ -7,7 +7,7 @@ mod large;
 mod small;
 mod values;
 
-// Accepted, or the fault's number and line.
+// Accepted, or the fault's number and line, by which faults are told.
 type Told = Result<(), (u8, u8)>;
 
 // Where the fault of a number is found.

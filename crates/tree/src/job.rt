@@ -21,8 +21,8 @@ fn is_called(cells: &[Cell], i: usize, name: &[u8]) -> bool
     }
 }
 
-// The line of this name among the first n, from 0. A loop, as `line_named` is told line by line from the last,
-// and std tells what `rev().find(..)` finds by a list of the numbers.
+// The line of this name among the first n, from 0. A loop: with `(0..n).rev().find(..)` the goal `returns` stayed
+// open, since std tells what is found by a list of the numbers, and `line_named` line by line from the last.
 pub fn find_line(cells: &[Cell], n: usize, name: &[u8]) -> Option<usize>
     ensures { result ≡ line_named n cells.now name.now }
 {
@@ -63,7 +63,8 @@ impl Tree<'_> {
         ensures joins { is_joined (tree_nest self.new) ≡ is_joined (tree_nest self.old) }
     {
         let line = self.line_called(name).ok_or(JobRefusal::NoWorkLeaf)?;
-        let cells = &mut *self.cells; // a cell of a struct with a fact is lent from a variable alone
+        // from a variable: no element of a slice is lent out of a struct that holds a fact over it
+        let cells = &mut *self.cells;
         add_jobs(&mut cells[line].body, n)
     }
 }

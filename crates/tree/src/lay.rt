@@ -12,7 +12,8 @@ use leaves::work::Work;
 use topology::node::Part;
 use topology::table::Topology;
 
-// The tag of line i, counted from 0: its number, counted from 1. The cast is proved to lose nothing.
+// The tag of line i, counted from 0: its number, counted from 1. There are at most 127 lines, so modulo 256 is
+// no loss, and the cast is proved to lose nothing for any i.
 fn line_tag(i: usize) -> u32
     ensures { result ≡ tag_of i }
 {

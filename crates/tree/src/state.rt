@@ -7,6 +7,7 @@ use cells::cell::Cell;
 use channel::phase::Phase;
 
 // Every line is a device; lines join earlier lines, and no line is joined twice. Each join goes with its devices.
+// The count stands beside the cells, since all of them are there for the next load.
 #[derive(Drop)]
 pub struct Tree<'a> {
     pub(crate) cells: &'a mut [Cell],

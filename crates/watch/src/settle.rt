@@ -61,8 +61,8 @@ fn walk<W: Watched>(rt: &impl Print, design: &mut W, tally: &mut Tally) -> io::R
     Ok(bound)
 }
 
-// Sees a change to its end, and counts it. Design and counts are no struct of this crate, since a
-// program could give that no methods of its own.
+// Sees a change to its end, and counts it. Design and counts are two values: a design steps and tells, and
+// its program counts what it asked of it, so that one would be the other's field in name alone.
 pub fn settle<W: Watched>(rt: &impl Print, design: &mut W, tally: &mut Tally) -> io::Result<u32>
     ensures settled { OnOk result (W.changing design.new ≡ false) }
     ensures few { IfOk result (λ n. n ≤ W.BOUND) }

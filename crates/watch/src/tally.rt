@@ -2,7 +2,7 @@
 ghost use Rattle.std.specs.Prelude.{◌≡◌};
 ghost use Rattle.watch.specs.Tally.{none_yet, with_step, with_change, with_request, with_answer};
 
-// How a request stands.
+// How a request stands. An Option of a Result would say the same in two layers.
 #[derive(Clone, Copy, PartialEq, Eq, Debug)]
 pub enum Ending {
     Accepted,
@@ -44,7 +44,7 @@ impl Tally {
         self.steps = self.steps.saturating_add(1);
     }
 
-    // A change was seen to its end, or given up, after so many steps.
+    // A change was seen to its end, after so many steps.
     pub fn change(&mut self, taken: u32)
         ensures { self.new ≡ with_change taken self.old }
     {
@@ -57,7 +57,7 @@ impl Tally {
         self.requests = self.requests.saturating_add(1);
     }
 
-    // A request was answered, or given up.
+    // How a request stands after its change.
     pub fn answer(&mut self, ending: Ending)
         ensures { self.new ≡ with_answer ending self.old }
     {

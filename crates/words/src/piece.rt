@@ -17,7 +17,8 @@ pub fn word(line: &[u8], k: usize) -> &[u8]
     line.split(|b| *b == b' ').nth(k).unwrap_or(&[])
 }
 
-// The lines of a text without their bytes 10; bytes behind the last byte 10 are one more.
+// The lines of a text without their bytes 10; bytes behind the last byte 10 are one more. An iterator of its own,
+// since the library's `split` gives an empty piece behind the last byte 10.
 #[derive(Drop)]
 pub struct Lines<'t> {
     rest: &'t [u8],
