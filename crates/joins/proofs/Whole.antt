@@ -20,7 +20,6 @@ use Rattle.joins.specs.Together.{joined, Both, Together, InSequence, denier_afte
 use Rattle.joins.specs.Bounds.{join_timing}
 use Rattle.joins.specs.Leaves.{each_++, each_map, tags-++}
 use Rattle.joins.specs.Certain.{together_certain, sequence_certain}
-use Rattle.joins.specs.Join.{join_means, join_time}
 use Rattle.joins.specs.Ordered.{sound_at, phases_at}
 use Rattle.joins.proofs.Order.{first_may, second_may, Pair, join_stepped, keeps_together, keeps_sequence, turned_phase}
 use Rattle.joins.proofs.Pace.{Paced, SequenceAt, Stays, join_ticked}
