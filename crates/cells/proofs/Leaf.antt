@@ -13,10 +13,10 @@ use Rattle.leaves.specs.Timed as timed
 use Rattle.leaves.specs.Work as work
 
 pub timed_lowers : (t : Timed) → Lowered (timed.timed_means t) (timed.timed_means (timed.after call.Lower t))
-timed_lowers t = let h = t.told in grind (arith, nat_tests)
+timed_lowers t = grind (arith, nat_tests)
 
 pub timed_raises : (t : Timed) → Raised (timed.timed_means t) (timed.timed_means (timed.after call.Raise t))
-timed_raises t = let h = t.told in grind (arith, nat_tests)
+timed_raises t = grind (arith, nat_tests)
 
 pub timed_steps : (t : Timed) → Stepped (timed.timed_means t) (timed.timed_means (timed.after call.Step t))
 timed_steps t = let h = t.told in record {
@@ -31,10 +31,10 @@ pub timed_ticks : (t : Timed)
 timed_ticks t = let h = t.in_time in record { fewer = grind (arith, nat_tests); same_bound = grind (arith, nat_tests) }
 
 pub work_lowers : (w : Work) → Lowered (work.work_means w) (work.work_means (work.after call.Lower w))
-work_lowers w = let h = w.told in grind (arith, nat_tests)
+work_lowers w = grind (arith, nat_tests)
 
 pub work_raises : (w : Work) → Raised (work.work_means w) (work.work_means (work.after call.Raise w))
-work_raises w = let h = w.told in grind (arith, nat_tests)
+work_raises w = grind (arith, nat_tests)
 
 pub work_steps : (w : Work) → Stepped (work.work_means w) (work.work_means (work.after call.Step w))
 work_steps w = let h = w.told in record {
@@ -71,7 +71,7 @@ pub timed_lower_refused : (t : Timed) → is_ok (lower_answer t.end.phase) ≡ f
 timed_lower_refused t e = timed_same t _ _ _ _ _ _ _ _ t.in_time t.told (grind arith) (grind arith) (grind arith)
 
 pub timed_raise_refused : (t : Timed) → is_ok (raise_answer t.end.phase) ≡ false → timed.after call.Raise t ≡ t
-timed_raise_refused t e = timed_same t _ _ _ _ _ _ _ _ t.in_time t.told (refl) (grind arith) (grind arith)
+timed_raise_refused t e = timed_same t _ _ _ _ _ _ _ _ t.in_time t.told refl (grind arith) (grind arith)
 
 pub work_lower_refused : (w : Work) → is_ok (lower_answer w.end.phase) ≡ false → work.after call.Lower w ≡ w
 work_lower_refused w e = work_same w _ _ _ _ _ w.told (grind arith) (grind arith)
