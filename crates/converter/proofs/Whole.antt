@@ -1,14 +1,13 @@
 -- The calls of a converter over any device, from the laws over meanings.
-use Rattle.std.proofs.Common.{◌≡◌, ℕ, Bool, cond, is_some, is_ok, None, Option, Result, refl, ap, ◌∙◌, subst, arith}
-use Rattle.channel.specs.declared.phase.Phase.TheVariants.{Stopped}
+use Rattle.std.proofs.Common.{◌≡◌, ℕ, Bool, cond, is_some, is_ok, None, Option, Result, refl, ap, ◌∙◌, subst}
 use Rattle.channel.specs.declared.pphase.PPhase.{PPhase}
 use Rattle.channel.specs.declared.pphase.PPhase.TheVariants as p
 use Rattle.channel.specs.declared.device.QDevice as device
-use Rattle.channel.specs.Means.{Means, Each, Sound}
+use Rattle.channel.specs.Means.{Means, Sound}
 use Rattle.channel.specs.Calls.{Stepped}
 use Rattle.channel.specs.Timing.{Timing, Ticked}
 use Rattle.channel.specs.Device.{InOrder}
-use Rattle.pile.specs.Views.{Begun, p_end}
+use Rattle.pile.specs.Views.{p_end}
 use Rattle.pile.specs.Calls.{stop, back, Called, Timed, Ticks, Runs}
 use Rattle.joins.specs.declared.rules.Drive.{Drive}
 use Rattle.joins.specs.declared.rules.Drive.TheVariants.{Nothing}

@@ -1,5 +1,5 @@
 -- Steps taken and steps left of the two designs, from what their steps promise.
-use Rattle.std.proofs.Common.{◌≡◌, ◌<◌, Bool, true, ◌∙◌, arith}
+use Rattle.std.proofs.Common.{◌≡◌, ◌<◌, Bool, true, arith}
 use Rattle.channel.specs.declared.phase.Phase.{Phase}
 use Rattle.channel.specs.declared.pphase.PPhase.{PPhase}
 use Rattle.channel.specs.declared.pphase.PPhase.TheVariants as p
