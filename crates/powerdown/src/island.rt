@@ -45,11 +45,12 @@ struct Phases {
 
 // A step's edges: each layer's drives before those of the layer below, and its answers after them.
 fn print_edges(rt: &impl Print, step: u32, old: Phases, new: Phases) -> io::Result<()> {
-    let row = Change("row", old.row, new.row);
-    let masters = Change("masters", old.masters, new.masters);
-    let cpu = Change("cpu", old.cpu, new.cpu);
-    let dma = Change("dma", old.dma, new.dma);
-    let mem = Change("mem", old.mem, new.mem);
+    let change = |name, old, new| Change { name, old, new };
+    let row = change("row", old.row, new.row);
+    let masters = change("masters", old.masters, new.masters);
+    let cpu = change("cpu", old.cpu, new.cpu);
+    let dma = change("dma", old.dma, new.dma);
+    let mem = change("mem", old.mem, new.mem);
     for change in [row, masters, mem, cpu, dma] {
         change.print_drive(rt, step)?;
     }

@@ -11,12 +11,20 @@ mod rounds;
 
 use island::Island;
 use pair::Pair;
-use print::print_tally;
+use print::Summary;
 
 fn main(rt: HostRuntime) -> io::Result<()> {
-    let first = pair::power_down(&rt)?;
-    let second = island::power_down(&rt)?;
+    let pair = Summary {
+        name: "pair",
+        tally: pair::power_down(&rt)?,
+        bound: Pair::BOUND,
+    };
+    let island = Summary {
+        name: "island",
+        tally: island::power_down(&rt)?,
+        bound: Island::BOUND,
+    };
     println!(rt; "summary")?;
-    print_tally(&rt, "pair", &first, Pair::BOUND)?;
-    print_tally(&rt, "island", &second, Island::BOUND)
+    println!(rt; "{pair}")?;
+    println!(rt; "{island}")
 }

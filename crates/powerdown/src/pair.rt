@@ -36,9 +36,10 @@ struct Phases {
 
 // A step's edges in the order in which they came: drives, answers, and the distributor's own.
 fn print_edges(rt: &impl Print, step: u32, old: Phases, new: Phases) -> io::Result<()> {
-    let top = Change("top", old.top, new.top);
-    let cpu = Change("cpu", old.cpu, new.cpu);
-    let dma = Change("dma", old.dma, new.dma);
+    let change = |name, old, new| Change { name, old, new };
+    let top = change("top", old.top, new.top);
+    let cpu = change("cpu", old.cpu, new.cpu);
+    let dma = change("dma", old.dma, new.dma);
     for change in [cpu, dma] {
         change.print_drive(rt, step)?;
     }

@@ -5,6 +5,7 @@ use std::{fmt, io};
 use watch::edges::{answer_edge, drive_edge};
 use watch::tally::{Ending, Tally};
 
+// A tag is the library's number of a leaf, so the leaves of both designs are constants and no enum.
 pub const CPU: u32 = 1;
 
 pub const DMA: u32 = 2;
@@ -40,7 +41,7 @@ impl fmt::Display for Answer {
     }
 }
 
-// A channel has come to a phase.
+// A channel has come to a phase, if it has made an edge.
 pub fn print_edge<P: Signals>(
     rt: &impl Print,
     step: u32,
@@ -55,33 +56,45 @@ pub fn print_edge<P: Signals>(
 
 // A Q-Channel by name, with its phases before and after a step.
 #[derive(Clone, Copy)]
-pub struct Change(pub &'static str, pub Phase, pub Phase);
+pub struct Change {
+    pub name: &'static str,
+    pub old: Phase,
+    pub new: Phase,
+}
 
 impl Change {
     pub fn print_drive(self, rt: &impl Print, step: u32) -> io::Result<()> {
-        let Change(name, old, new) = self;
-        print_edge(rt, step, name, drive_edge(old, new))
+        print_edge(rt, step, self.name, drive_edge(self.old, self.new))
     }
 
     pub fn print_answer(self, rt: &impl Print, step: u32) -> io::Result<()> {
-        let Change(name, old, new) = self;
-        print_edge(rt, step, name, answer_edge(old, new))
+        print_edge(rt, step, self.name, answer_edge(self.old, self.new))
     }
 }
 
-pub fn print_tally(rt: &impl Print, name: &str, tally: &Tally, bound: u32) -> io::Result<()> {
-    println!(rt;
-        "  {name}: {} requests, {} accepted, {} denied",
-        tally.requests(),
-        tally.accepted(),
-        tally.denied(),
-    )?;
-    if let Some(tag) = tally.denier() {
-        println!(rt; "    denied by {}, tag {tag}", Leaf(tag))?;
+// The counts of a design, beside its bound.
+#[derive(Clone, Copy)]
+pub struct Summary {
+    pub name: &'static str,
+    pub tally: Tally,
+    pub bound: u32,
+}
+
+impl fmt::Display for Summary {
+    fn fmt<W: fmt::Write>(&self, f: &mut fmt::Formatter<W>) -> fmt::Result {
+        let Summary { name, tally, bound } = *self;
+        let (requests, accepted, denied) = (tally.requests(), tally.accepted(), tally.denied());
+        let (steps, longest) = (tally.steps(), tally.longest());
+        writeln!(
+            f,
+            "  {name}: {requests} requests, {accepted} accepted, {denied} denied"
+        )?;
+        if let Some(tag) = tally.denier() {
+            writeln!(f, "    denied by {}, tag {tag}", Leaf(tag))?;
+        }
+        write!(
+            f,
+            "    {steps} steps, {longest} in the longest change, of at most {bound}"
+        )
     }
-    println!(rt;
-        "    {} steps, {} in the longest change, of at most {bound}",
-        tally.steps(),
-        tally.longest(),
-    )
 }

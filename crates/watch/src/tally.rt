@@ -12,7 +12,7 @@ pub enum Ending {
 }
 
 // Closed, so that only events change a count.
-#[derive(Clone, Copy, PartialEq, Eq, Debug)]
+#[derive(Clone, Copy, PartialEq, Eq, Debug, Default)]
 pub struct Tally {
     requests: u32,
     accepted: u32,
@@ -28,14 +28,7 @@ impl Tally {
     pub fn new() -> Self
         ensures { result ≡ none_yet }
     {
-        Tally {
-            requests: 0,
-            accepted: 0,
-            denied: 0,
-            denier: None,
-            steps: 0,
-            longest: 0,
-        }
+        Tally::default()
     }
 
     pub fn step(&mut self)
