@@ -9,6 +9,7 @@ mod tests {
     use leaves::timed::Timed;
     use leaves::work::Work;
     use leaves::worker::{JobRefusal, Worker};
+    use std::test::Fail;
 
     #[test]
     fn timed_answers_at_step_d(rt: HostRuntime) {
@@ -147,10 +148,11 @@ mod tests {
     }
 
     #[test]
-    fn levels_as_digits(rt: HostRuntime) {
-        let run = format!(in rt.alloc(); "{}", Shown(Phase::Run.levels()));
-        assert_eq!(rt; run.expect(&rt, "memory").as_str(), "110");
-        let denied = format!(in rt.alloc(); "{}", Shown(PPhase::Denied.levels()));
-        assert_eq!(rt; denied.expect(&rt, "memory").as_str(), "101");
+    fn levels_as_digits(rt: HostRuntime) -> Result<(), Fail> {
+        let run = format!(in rt.alloc(); "{}", Shown(Phase::Run.levels()))?;
+        assert_eq!(rt; run.as_str(), "110");
+        let denied = format!(in rt.alloc(); "{}", Shown(PPhase::Denied.levels()))?;
+        assert_eq!(rt; denied.as_str(), "101");
+        Ok(())
     }
 }

@@ -4,6 +4,7 @@ use channel::device::QDevice;
 use channel::phase::Phase;
 use std::alloc::{AllocError, Global};
 use std::fmt;
+use std::process::Abort;
 use std::test::Fail;
 use tree::state::Tree;
 
@@ -63,10 +64,9 @@ fn until_moved(tree: &mut Tree<'_>, most: u16) -> u16 {
     most
 }
 
-// The leaf denies at step 1; the join over it is at Denied at step 2, and each one above a step later.
-#[test]
-fn deep_distributors(rt: HostRuntime) -> Result<(), Fail> {
-    let text = chain(rt.alloc(), "dist")?;
+// Loads a text of 127 lines whose first leaf denies, wakes the tree in so many steps and lowers it: it is denied
+// after so many more.
+fn denied_by_the_first(rt: &impl Abort, text: &str, up: u16, down: u16) {
     let mut cells = [Cell::blank(); 127];
     let mut tree = Tree::new(&mut cells);
     assert!(rt; tree.load(text.as_bytes()).is_ok());
@@ -74,44 +74,31 @@ fn deep_distributors(rt: HostRuntime) -> Result<(), Fail> {
     let _ = tree.raise();
     assert_eq!(rt;
         (until_moved(&mut tree, 1000), tree.phase()),
-        (1, Phase::Run)
+        (up, Phase::Run)
     );
     let _ = tree.lower();
     let (made, phase, denier) = (until_moved(&mut tree, 1000), tree.phase(), tree.denier());
-    assert_eq!(rt; (made, phase, denier), (64, Phase::Denied, Some(1)));
+    assert_eq!(rt; (made, phase, denier), (down, Phase::Denied, Some(1)));
+}
+
+// The leaf denies at step 1; the join over it is at Denied at step 2, and each one above a step later.
+#[test]
+fn deep_distributors(rt: HostRuntime) -> Result<(), Fail> {
+    let text = chain(rt.alloc(), "dist")?;
+    denied_by_the_first(&rt, text.as_str(), 1, 64);
     Ok(())
 }
 
 #[test]
 fn deep_sequencers(rt: HostRuntime) -> Result<(), Fail> {
     let text = chain(rt.alloc(), "seq")?;
-    let mut cells = [Cell::blank(); 127];
-    let mut tree = Tree::new(&mut cells);
-    assert!(rt; tree.load(text.as_bytes()).is_ok());
-    let _ = tree.raise();
-    assert_eq!(rt;
-        (until_moved(&mut tree, 1000), tree.phase()),
-        (64, Phase::Run)
-    );
-    let _ = tree.lower();
-    let (made, phase, denier) = (until_moved(&mut tree, 1000), tree.phase(), tree.denier());
-    assert_eq!(rt; (made, phase, denier), (64, Phase::Denied, Some(1)));
+    denied_by_the_first(&rt, text.as_str(), 64, 64);
     Ok(())
 }
 
 #[test]
 fn wide_tree(rt: HostRuntime) -> Result<(), Fail> {
     let text = wide(rt.alloc())?;
-    let mut cells = [Cell::blank(); 127];
-    let mut tree = Tree::new(&mut cells);
-    assert!(rt; tree.load(text.as_bytes()).is_ok());
-    let _ = tree.raise();
-    assert_eq!(rt;
-        (until_moved(&mut tree, 100), tree.phase()),
-        (2, Phase::Run)
-    );
-    let _ = tree.lower();
-    let (made, phase, denier) = (until_moved(&mut tree, 100), tree.phase(), tree.denier());
-    assert_eq!(rt; (made, phase, denier), (9, Phase::Denied, Some(1)));
+    denied_by_the_first(&rt, text.as_str(), 2, 9);
     Ok(())
 }
