@@ -8,5 +8,9 @@ use words::number::decimal;
 pub fn count(w: &[u8]) -> Option<u16>
     ensures { result ≡ count_of w.now }
 {
+    // more digits than 65,535 has, however long the word is: `decimal` looks at all of it
+    if w.len() > 5 {
+        return None;
+    }
     decimal(w)
 }

@@ -12,8 +12,11 @@ use words::piece::{word, word_count};
 fn job_event(line: &[u8]) -> Result<Event, Refusal>
     ensures { result ≡ job_line line.now }
 {
+    if word_count(line) != 3 || word(line, 0) != b"j".as_slice() {
+        return Err(Refusal::NotAsWritten);
+    }
     let name = word(line, 1);
-    if word_count(line) != 3 || word(line, 0) != b"j".as_slice() || !is_name(name) {
+    if !is_name(name) {
         return Err(Refusal::NotAsWritten);
     }
     let jobs = count(word(line, 2)).ok_or(Refusal::NotAsWritten)?;

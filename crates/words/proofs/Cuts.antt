@@ -1,11 +1,7 @@
 -- Where a text is cut: its first line, and the rest. Assumes nothing.
 use Rattle.std.proofs.Common.{◌≡◌, ℕ, suc, ◌+◌, ◌<◌, Bool, true, false, cond, not, eqb, List, [], ◌∷◌, length, take, drop, refl, ap, ◌∙◌, arith}
-use Rattle.std.specs.List.{onto_first, position_or_len}
-use Rattle.words.specs.Pieces.{lines_of}
-
--- where the first line ends
-abbrev pub line_end : List ℕ → ℕ
-line_end t = position_or_len (λ x. eqb x 10) t
+use Rattle.std.specs.List.{onto_first}
+use Rattle.words.specs.Pieces.{lines_of, line_end}
 
 pub lines_none : (t : List ℕ) → length t ≡ 0 → lines_of t ≡ []
 unfolding lines_of

@@ -1,11 +1,11 @@
 -- A word gives back what was read of it, and the words of a line give back the line. Assumes nothing.
-use Rattle.std.proofs.Common.{◌≡◌, ℕ, suc, ◌-◌, ◌<◌, ◌≤◌, min, Bool, true, false, cond, not, ◌&&◌, ◌||◌, eqb, ltb, leb, List, [], ◌∷◌, ◌++◌, length, get_or, take, replicate, Some, None, decimal, Option, sym, refl, ap, ◌∙◌, subst, sub-one, arith, rules}
+use Rattle.std.proofs.Common.{◌≡◌, ℕ, suc, ◌-◌, ◌^◌, ◌<◌, ◌≤◌, min, Bool, true, false, cond, not, ◌&&◌, ◌||◌, eqb, ltb, leb, List, [], ◌∷◌, ◌++◌, length, get_or, take, replicate, Some, None, decimal, Option, sym, refl, ap, ◌∙◌, subst, sub-one, arith, rules}
 use Rattle.std.specs.List.{onto_first}
 use Rattle.std.proofs.lemmas.List.{take_all, take_at}
 use Rattle.std.proofs.lemmas.List.Splits.{join_with_byte-slice_split}
 use Rattle.std.proofs.lemmas.Bool.{and_parts, leb-true, ltb-false, eqb-true, eqb-false}
 use Rattle.std.proofs.lemmas.Str.Parse.{IsNumeralModel, numerals_by_fold}
-use Rattle.std.proofs.lemmas.Fmt.{decimal-digits_value}
+use Rattle.std.proofs.lemmas.Fmt.{decimal-digits_value, length-decimal-le}
 use Rattle.words.specs.Pieces.{words_of, lines_of, spaced, unlines}
 use Rattle.words.specs.Numbers.{digits, value_on, value, well_led, within, decimal_of, at_least, number_of}
 use Rattle.words.specs.Names.{letter, legal, name_of, text_of}
@@ -69,19 +69,33 @@ at_least_says low (Some x) v h = by (ltb x low) refl h
     by true q k = absurd (none≢some k)
     by false q k = let s : x ≡ v = cc in (ap Some s, omega (arith, ltb-false _ _ q))
 
-pub number_says : (low : ℕ) (w : List ℕ) (v : ℕ) → number_of low w ≡ Some v → Writes low w v
-number_says low w v e = by (well_led w) refl f.0
+-- a number of at most `most` that a word writes has the word for its decimal
+pub decimal_says : (most : ℕ) → most < 2 ^ 64 → (w : List ℕ) (v : ℕ) → decimal_of most w ≡ Some v → (v ≤ most) × (decimal v ≡ w)
+decimal_says most small w v e = by (well_led w) refl e
   where
-    f : (decimal_of 255 w ≡ Some v) × (low ≤ v)
-    f = at_least_says low (decimal_of 255 w) v e
-
-    by : (t : Bool) → well_led w ≡ t → cond t (within 255 w) None ≡ Some v → Writes low w v
+    by : (t : Bool) → well_led w ≡ t → cond t (within most w) None ≡ Some v → (v ≤ most) × (decimal v ≡ w)
     by false p h = absurd (none≢some h)
     by true p h =
-        let g = within_says 255 w v h in
+        let g = within_says most w v h in
         let l = led w p in
         let s = g.1 in
-        record { least = f.1; most = g.2; back = ap decimal (sym s) ∙ decimal-digits_value own w g.0 l.0 l.1 (omega (arith, g.2)) }
+        (g.2, ap decimal (sym s) ∙ decimal-digits_value own w g.0 l.0 l.1 (omega (arith, g.2)))
+
+-- a word that is longer than each decimal up to `most` writes none of these numbers
+pub decimal_long : (k most : ℕ) → 0 < k → most < 10 ^ k → most < 2 ^ 64 → (w : List ℕ) → k < length w → decimal_of most w ≡ None
+decimal_long k most some fits small w h = by (decimal_of most w) refl
+  where
+    by : (o : Option ℕ) → decimal_of most w ≡ o → o ≡ None
+    by None e = refl
+    by (Some v) e =
+        let s = decimal_says most small w v e in
+        absurd (omega (arith, ap length s.1, length-decimal-le k v some (omega (arith, s.0)) (omega (arith, s.0))))
+
+pub number_says : (low : ℕ) (w : List ℕ) (v : ℕ) → number_of low w ≡ Some v → Writes low w v
+number_says low w v e =
+    let f = at_least_says low (decimal_of 255 w) v e in
+    let s = decimal_says 255 (omega arith) w v f.0 in
+    record { least = f.1; most = s.0; back = s.1 }
 
 -- words and lines
 

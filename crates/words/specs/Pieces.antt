@@ -1,12 +1,16 @@
 -- A text cut into lines, and a line cut into words. Assumes nothing.
 use Rattle.std.specs.Prelude.{ℕ, cond, List, [], ◌∷◌, ◌++◌, ◌==◌, slice_index_or}
 use Rattle.words.specs.declared.piece.Lines.{Lines}
-use Rattle.std.specs.List.{slice_split, onto_first, join_with_byte}
+use Rattle.std.specs.List.{slice_split, onto_first, join_with_byte, position_or_len}
 
 -- the lines of a text, each ended by byte 10
 unfoldable pub lines_of : List ℕ → List (List ℕ)
 lines_of [] = []
 lines_of (x ∷ xs) = cond (x == 10) ([] ∷ lines_of xs) (onto_first x (lines_of xs))
+
+-- where the first line ends: at the first byte 10, or at the end where there is none
+abbrev pub line_end : List ℕ → ℕ
+line_end t = position_or_len (λ x. x == 10) t
 
 -- the text that an iterator over lines has left, and its lines
 abbrev pub text_left : Lines → List ℕ

@@ -1,7 +1,7 @@
 // A text is cut at one byte: lines at byte 10, words at byte 32.
-ghost use Rattle.std.specs.Prelude.{◌≡◌, length};
+ghost use Rattle.std.specs.Prelude.{◌≡◌, ◌+◌, length, take, drop};
 ghost use Rattle.std.specs.Iterator.{YieldsFirstRef, item_count};
-ghost use Rattle.words.specs.Pieces.{lines_of, text_left, lines_left, words_of, word_of};
+ghost use Rattle.words.specs.Pieces.{lines_of, line_end, text_left, lines_left, words_of, word_of};
 
 // How many words a line has: one more than it has spaces.
 pub fn word_count(line: &[u8]) -> usize
@@ -15,6 +15,15 @@ pub fn word(line: &[u8], k: usize) -> &[u8]
     ensures { result.now ≡ word_of line.now k }
 {
     line.split(|b| *b == b' ').nth(k).unwrap_or(&[])
+}
+
+// The first line of a text without its byte 10, and what stands behind it.
+pub fn split_line(text: &[u8]) -> (&[u8], &[u8])
+    ensures line { result.0.now ≡ take (line_end text.now) text.now }
+    ensures rest { result.1.now ≡ drop (line_end text.now + 1) text.now }
+{
+    let end = text.iter().position(|b| *b == b'\n').unwrap_or(text.len());
+    (&text[..end], text.get(end + 1..).unwrap_or(&[]))
 }
 
 // The lines of a text without their bytes 10; bytes behind the last byte 10 are one more. An iterator of its own,
@@ -43,13 +52,8 @@ impl<'t> Iterator for Lines<'t> {
         if self.rest.is_empty() {
             return None;
         }
-        let end = self
-            .rest
-            .iter()
-            .position(|b| *b == b'\n')
-            .unwrap_or(self.rest.len());
-        let line = &self.rest[..end];
-        self.rest = self.rest.get(end + 1..).unwrap_or(&[]);
+        let (line, rest) = split_line(self.rest);
+        self.rest = rest;
         Some(line)
     }
 }
