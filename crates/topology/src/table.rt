@@ -1,6 +1,7 @@
 // The nodes of a text, in the order of its lines.
-ghost use Rattle.std.specs.Prelude.{◌≡◌, ◌<◌, ◌≤◌, [], ◌∷◌, ◌++◌, length};
+ghost use Rattle.std.specs.Prelude.{◌≡◌, ℕ, ◌<◌, ◌≤◌, false, [], ◌∷◌, ◌++◌, length, take, slice_index_or};
 ghost use Rattle.std.specs.List.{slice_get};
+ghost use Rattle.topology.specs.Nodes.{joined};
 
 use crate::node::{Node, Part};
 use words::name::Name;
@@ -10,12 +11,15 @@ pub(crate) mod make;
 // The most lines of a text.
 const LINES: usize = 127;
 
-// An array with its count, since it is copied and takes no heap.
+// An array with its count, since it is copied and takes no heap. The marks are of the lines that some node joins,
+// with one for every `u8`, so that no line needs a bound to be marked.
 #[derive(Clone, Copy)]
 pub struct Topology {
     nodes: [Node; LINES],
     count: u8,
+    marks: [bool; 256],
     ghost few: { count ≤ length nodes },
+    ghost marked: { (k : ℕ) → k < 256 → slice_index_or marks k false ≡ joined k (take count nodes) },
 }
 
 impl Topology {
@@ -32,6 +36,7 @@ impl Topology {
         Topology {
             nodes: [blank; LINES],
             count: 0,
+            marks: [false; 256],
         }
     }
 
@@ -62,5 +67,12 @@ impl Topology {
     {
         self.nodes[self.len()] = node;
         self.count += 1;
+        match node.part {
+            Part::Timed { .. } | Part::Work { .. } => {}
+            Part::Dist { first, second } | Part::Seq { first, second } => {
+                self.marks[usize::from(first)] = true;
+                self.marks[usize::from(second)] = true;
+            }
+        }
     }
 }

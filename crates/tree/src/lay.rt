@@ -1,5 +1,5 @@
 // Lays a topology into cells.
-ghost use Rattle.std.specs.Prelude.{◌≡◌, length};
+ghost use Rattle.std.specs.Prelude.{◌≡◌, length, Some};
 ghost use Rattle.std.specs.List.{slice_get};
 ghost use Rattle.topology.specs.Tables.{nodes_in};
 ghost use Rattle.tree.specs.Loads.{tag_of, Fresh, LineIs, Laid, AllBlank};
@@ -9,7 +9,7 @@ use channel::end::QEnd;
 use joins::rules::Kind;
 use leaves::timed::Timed;
 use leaves::work::Work;
-use topology::node::Part;
+use topology::node::{Node, Part};
 use topology::table::Topology;
 
 // The tag of line i, counted from 0: its number, counted from 1. There are at most 127 lines, so modulo 256 is
@@ -38,16 +38,13 @@ fn fresh_body(tag: u32, part: Part) -> Body
     }
 }
 
-// The cell of line i, where the topology has one, else a blank one.
-fn line_cell(plan: &Topology, i: usize) -> Cell
-    ensures { LineIs i (slice_get (nodes_in plan.now) i) result }
+// The cell of line i, whose node this is.
+fn line_cell(i: usize, node: Node) -> Cell
+    ensures { LineIs i (Some node) result }
 {
-    match plan.node(i) {
-        Some(node) => Cell {
-            name: node.name,
-            body: fresh_body(line_tag(i), node.part),
-        },
-        None => Cell::blank(),
+    Cell {
+        name: node.name,
+        body: fresh_body(line_tag(i), node.part),
     }
 }
 
@@ -55,8 +52,11 @@ fn line_cell(plan: &Topology, i: usize) -> Cell
 pub fn lay(cells: &mut [Cell], plan: &Topology)
     ensures { Laid (nodes_in plan.now) cells.new }
 {
-    for (i, cell) in cells.iter_mut().enumerate() {
-        *cell = line_cell(plan, i);
+    blank_all(cells);
+    for (i, node) in plan.nodes().iter().enumerate() {
+        if i < cells.len() {
+            cells[i] = line_cell(i, *node);
+        }
     }
 }
 

@@ -45,10 +45,16 @@ impl<'a> Tree<'a> {
     {
         self.own = Phase::Stopped;
         self.count = 0;
-        blank_all(self.cells);
-        let plan = read(text, self.cells.len())?;
-        lay(self.cells, &plan);
-        self.count = plan.len();
-        Ok(())
+        match read(text, self.cells.len()) {
+            Ok(plan) => {
+                lay(self.cells, &plan);
+                self.count = plan.len();
+                Ok(())
+            }
+            Err(fault) => {
+                blank_all(self.cells);
+                Err(fault)
+            }
+        }
     }
 }

@@ -43,7 +43,7 @@ impl Topology {
     fn is_joined(&self, line: u8) -> bool
         ensures { result ≡ joined line (nodes_in self.now) }
     {
-        self.nodes().iter().any(|node| node.part.joins(line))
+        self.marks[usize::from(line)]
     }
 
     // An earlier line of this name that is not joined yet.
