@@ -4,4 +4,5 @@ pub mod Over
 pub mod Certain
 pub mod Converter
 pub mod Shows
+pub mod Same
 pub mod Stack

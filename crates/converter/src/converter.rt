@@ -2,7 +2,7 @@
 ghost use Rattle.converter.specs.Rules.{mode_of};
 ghost use Rattle.converter.specs.Over.{Over};
 
-use crate::refusal::PRefusal;
+pub use crate::refusal::PRefusal;
 use crate::rules::{Mode, drive_for, next_phase, next_state, note_for, task_for};
 use channel::device::QDevice;
 use channel::pphase::PPhase;
@@ -60,7 +60,7 @@ impl<D: QDevice> Converter<D> {
 }
 
 impl<D: QDevice> Converter<D> {
-    ghost use Rattle.std.specs.Prelude.{◌≡◌, ◌*◌, true, is_ok};
+    ghost use Rattle.std.specs.Prelude.{◌≡◌, ◌*◌, true, is_ok, OnErr};
     ghost use Rattle.channel.specs.Means.{tags};
     ghost use Rattle.channel.specs.Calls.{Reset};
     ghost use Rattle.pile.specs.Calls.{stop, back, tick};
@@ -88,6 +88,7 @@ impl<D: QDevice> Converter<D> {
     pub fn ask(&mut self, state: u8) -> Result<(), PRefusal>
         ensures answer { result ≡ ask_answer self.old.phase state }
         ensures exact { AskMade state self.old self.new }
+        ensures refused { OnErr result (self.new ≡ self.old) }
         ensures linked { Links stop (is_ok result) self.old self.new }
     {
         match (self.phase, Mode::from(state)) {
@@ -106,6 +107,7 @@ impl<D: QDevice> Converter<D> {
     pub fn drop(&mut self) -> Result<(), PRefusal>
         ensures answer { result ≡ drop_answer self.old.phase }
         ensures exact { DropMade self.old self.new }
+        ensures refused { OnErr result (self.new ≡ self.old) }
         ensures linked { Links back (is_ok result) self.old self.new }
     {
         self.phase = match self.phase {

@@ -1,4 +1,6 @@
 // A converter is a pile: the promise holds of it over any device.
+ghost use Rattle.std.specs.Prelude.{◌≡◌};
+ghost use Rattle.pile.specs.Runs.{Promised};
 ghost use Rattle.converter.specs.Converter.{view_of, time_of};
 ghost use Rattle.converter.specs.Shows.{converter_fits};
 ghost use Rattle.converter.specs.Stack.{p_kind, p_answer, p_makes, p_resets};
@@ -7,6 +9,7 @@ use crate::converter::Converter;
 use crate::refusal::PRefusal;
 use channel::device::QDevice;
 use pile::pile::Pile;
+use pile::played::play;
 
 // Ask, drop and step; a reset is no call of a run.
 #[derive(Clone, Copy, PartialEq, Eq, Debug)]
@@ -29,7 +32,7 @@ impl<D: QDevice> Pile for Converter<D> {
 
     ghost kind = { p_kind };
 
-    ghost answer = { p_answer };
+    ghost answers = { λ c x r. r ≡ p_answer c x };
 
     ghost makes = { p_makes };
 
@@ -51,4 +54,12 @@ impl<D: QDevice> Pile for Converter<D> {
             }
         }
     }
+}
+
+// Resets a converter and makes these calls, one after the other: the promise is kept, with each of the
+// implementation's members by its name.
+pub fn play_converter<D: QDevice>(power: &mut Converter<D>, calls: &[PCall])
+    ensures { Promised (λ _. Unit {0}) view_of time_of p_kind p_makes p_resets calls.now power.old power.new }
+{
+    play(power, calls)
 }

@@ -9,3 +9,4 @@ pub mod Leaves
 pub mod Ordered
 pub mod Shows
 pub mod Told
+pub mod Same

@@ -2,7 +2,7 @@
 ghost use Rattle.joins.specs.Together.{Together, InSequence};
 
 use crate::drive::make_drive;
-use crate::rule::{Parallel, Rule, Serial};
+pub use crate::rule::{Parallel, Rule, Serial};
 use crate::rules::{decide, first_drive, note, second_drive};
 use channel::device::{QDevice, Refusal};
 use channel::end::QEnd;

@@ -1,4 +1,5 @@
 // A distributor or sequencer is a pile: the promise holds of it over any two devices.
+ghost use Rattle.std.specs.Prelude.{◌≡◌};
 ghost use Rattle.channel.specs.declared.device.Call.TheVariants.{Restart};
 ghost use Rattle.pile.specs.OfQ.{q_kind, q_answer, q_makes};
 ghost use Rattle.joins.specs.Join.{join_means, join_time, join_makes};
@@ -23,7 +24,7 @@ impl<R: Rule, A: QDevice, B: QDevice> Pile for Join<R, A, B> {
 
     ghost kind = { q_kind };
 
-    ghost answer = { λ c j. q_answer c (join_means j).phase };
+    ghost answers = { λ c j r. r ≡ q_answer c (join_means j).phase };
 
     ghost makes = { q_makes join_means join_makes };
 

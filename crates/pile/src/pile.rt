@@ -1,5 +1,5 @@
 // A pile as seen from above.
-ghost use Rattle.std.specs.Prelude.{◌≡◌, Bool, Result, is_ok};
+ghost use Rattle.std.specs.Prelude.{Bool, Result, is_ok};
 ghost use Rattle.channel.specs.Timing.{Timing};
 ghost use Rattle.pile.specs.Views.{View, Begun};
 ghost use Rattle.pile.specs.Calls.{Kind};
@@ -23,8 +23,8 @@ pub trait Pile {
 
     ghost kind: { Self.Call → Kind };
 
-    // what a call answers, by the value before it
-    ghost answer: { Self.Call → Self → Result Unit Self.Refusal };
+    // what a call may answer, by the value before it
+    ghost answers: { Self.Call → Self → Result Unit Self.Refusal → Type 0 };
 
     // what a call makes of the whole value, accepted or refused
     ghost makes: { Self.Call → Bool → Self → Self → Type 0 };
@@ -39,7 +39,7 @@ pub trait Pile {
 
     // Makes one of the pile's own calls.
     fn make(&mut self, call: Self::Call) -> Result<(), Self::Refusal>
-        ensures answer { result ≡ answer call self.old }
+        ensures answer { answers call self.old result }
         ensures exact { makes call (is_ok result) self.old self.new }
         ensures linked { piled self.old → Linked piled view timing (kind call) (is_ok result) self.old self.new };
 

@@ -1,4 +1,5 @@
 // A tree whose top joins two lines is a pile.
+ghost use Rattle.std.specs.Prelude.{◌≡◌};
 ghost use Rattle.channel.specs.declared.device.Call.TheVariants.{Restart};
 ghost use Rattle.tree.specs.Trees.{tree_timing, TreeMade};
 ghost use Rattle.tree.specs.Ordered.{tree_fits};
@@ -31,7 +32,7 @@ impl Pile for Tree<'_> {
 
     ghost kind = { tree_kind };
 
-    ghost answer = { tree_answer };
+    ghost answers = { λ c t r. r ≡ tree_answer c t };
 
     ghost makes = { call_makes };
 

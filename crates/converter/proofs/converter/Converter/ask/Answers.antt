@@ -7,6 +7,7 @@ pub returns-in-Stable-default : goal.returns-in-Stable-default
 returns-in-Stable-default g c = record {
   answer = search rules;
   exact = search rules;
+  refused = search rules;
   linked = ask_links g.met.D.QDevice.in_order c.args.state _ _ (Ok tt) (search rules) (search rules);
 }
 
@@ -14,5 +15,6 @@ pub returns-in_default : goal.returns-in_default
 returns-in_default g c = record {
   answer = search rules;
   exact = search rules;
+  refused = search rules;
   linked = ask_links g.met.D.QDevice.in_order c.args.state _ _ (Err AskNotAtStable) (search rules) (search rules);
 }

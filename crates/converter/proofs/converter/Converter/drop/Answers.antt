@@ -7,6 +7,7 @@ pub returns-in_default : goal.returns-in_default
 returns-in_default g c = record {
   answer = search rules;
   exact = search rules;
+  refused = search rules;
   linked = drop_links g.met.D.QDevice.in_order _ _ (Err DropNotAnswered) (search rules) (search rules);
 }
 
