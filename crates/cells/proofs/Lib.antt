@@ -1,4 +1,5 @@
 pub mod Leaf
+pub mod Joined
 pub mod Nested
 pub mod Passes
 pub mod Same

@@ -1,4 +1,4 @@
--- A nested tree is a device: the laws of a join over meanings and bounds are cited, not shown again.
+-- A nested tree is a device: each of its joins is taken as the library's join over nested devices, so the laws of a join are cited, not shown again.
 use Rattle.std.proofs.Common.{◌≡◌, refl, arith}
 use Rattle.std.proofs.lemmas.Bool.Decides.{nat_tests}
 use Rattle.channel.specs.declared.phase.Phase.{Phase}
@@ -11,10 +11,11 @@ use Rattle.leaves.specs.Work as work
 use Rattle.joins.specs.declared.rules.Drive.{Drive}
 use Rattle.joins.specs.declared.rules.Drive.TheVariants.{Nothing, Lower, Raise}
 use Rattle.joins.specs.Turns.{Drove, driven}
-use Rattle.joins.proofs.Whole.{Went, both_stopped_sequence, both_went, lowers, raises, resets, together_lowered, together_raised}
+use Rattle.joins.proofs.Whole.{Went, both_stopped_sequence, both_went, held, in_sequence, lowers, raises, resets, together_lowered, together_raised}
 use Rattle.cells.specs.Bodies.{driven_end, drive_timed, drive_work}
 use Rattle.cells.specs.Nests.{Nest, empty, timed_leaf, work_leaf, join, nest_means, nest_timing, EmptyAt, NestOrder, empty_step, drive_nest, wish_first, wish_second, turn, reset_nest}
 use Rattle.cells.specs.Ordered.{nest_in_order}
+use Rattle.cells.proofs.Joined.{as_join}
 use Rattle.cells.proofs.Leaf.{timed_lowers, timed_raises, timed_steps, timed_ticks, work_lowers, work_raises, work_steps, work_ticks}
 
 -- what a drive keeps
@@ -73,12 +74,14 @@ drive_kept Lower (work_leaf v) o = record {
   mid_bound = work_bound Lower v;
   kept = tt;
 }
-drive_kept Lower (join k q a b) o = record {
-  drove = lowers q.phase q.denier (nest_means a) (nest_means b) o.2 (nest_in_order a o.0).sound (nest_in_order b o.1).sound;
-  undriven = λ e. grind arith;
-  mid_bound = refl;
-  kept = (o.0, o.1, together_lowered q.phase q.denier (nest_means a) (nest_means b) o.2, o.3);
-}
+drive_kept Lower (join k q a b) o =
+    let h = held (as_join k q a b o) in
+    record {
+      drove = lowers q.phase q.denier (nest_means a) (nest_means b) h (nest_in_order a o.0).sound (nest_in_order b o.1).sound;
+      undriven = λ e. grind arith;
+      mid_bound = refl;
+      kept = (o.0, o.1, together_lowered q.phase q.denier (nest_means a) (nest_means b) h, o.3);
+    }
 drive_kept Raise (empty p) o = record {
   drove = empty_raises p o;
   undriven = λ e. grind arith;
@@ -97,12 +100,14 @@ drive_kept Raise (work_leaf v) o = record {
   mid_bound = work_bound Raise v;
   kept = tt;
 }
-drive_kept Raise (join k q a b) o = record {
-  drove = raises q.phase q.denier (nest_means a) (nest_means b) o.2;
-  undriven = λ e. grind arith;
-  mid_bound = refl;
-  kept = (o.0, o.1, together_raised q.phase q.denier (nest_means a) (nest_means b) o.2, o.3);
-}
+drive_kept Raise (join k q a b) o =
+    let h = held (as_join k q a b o) in
+    record {
+      drove = raises q.phase q.denier (nest_means a) (nest_means b) h;
+      undriven = λ e. grind arith;
+      mid_bound = refl;
+      kept = (o.0, o.1, together_raised q.phase q.denier (nest_means a) (nest_means b) h, o.3);
+    }
 
 -- what a step keeps, after the drive
 pub record TurnKept (w : Drive) (t : Nest) : Type 0 where
@@ -143,9 +148,10 @@ turn_kept w (join k q a b) o =
     let e = driven_end w q in
     let wa = wish_first k e a b in
     let wb = wish_second k e a b in
+    let j = as_join k e a b m in
     let ka = turn_kept wa a m.0 in
     let kb = turn_kept wb b m.1 in
-    let r = both_went k nest_means nest_timing nest_means nest_timing e.phase e.denier a (turn wa a) b (turn wb b) m.2 m.3
+    let r = both_went k nest_means nest_timing nest_means nest_timing e.phase e.denier a (turn wa a) b (turn wb b) (held j) (in_sequence j)
     (went wa a m.0 (drive_kept wa a m.0) ka) (went wb b m.1 (drive_kept wb b m.1) kb) in
     record { stepped = r.order; ticked = r.pace; kept = (ka.kept, kb.kept, r.together, r.sequence) }
 

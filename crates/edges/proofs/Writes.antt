@@ -26,6 +26,10 @@ moved_edges tick w names p q i e = by (eqb (number_of p) (number_of q))
     by true = refl
     by false = ap (λ x. edge_text tick x q ∷ []) e
 
+pub agrees : (b : Bool) → false ≡ not b → true ≡ b
+agrees true e = refl
+agrees false e = sym e
+
 -- phases are the same where their numbers are
 pub same_numbers : (p q : Phase) → sameb the_type p q ≡ eqb (number_of p) (number_of q)
 same_numbers p q = grind (arith, nat_tests)

@@ -1,13 +1,13 @@
 // The two passes of a step, with a line written for each edge.
 ghost use Rattle.std.specs.Prelude.{◌≡◌};
 ghost use Rattle.trace.specs.Written.{Adds};
-ghost use Rattle.cells.specs.Flat.{stepped};
-ghost use Rattle.edges.specs.Edges.{phase_at, change, step_edges};
+ghost use Rattle.cells.specs.Flat.{drive_line, answer_line, stepped};
+ghost use Rattle.edges.specs.Edges.{phase_at, change, drive_edges, answer_edges, step_edges};
 ghost use Rattle.edges.specs.Lines.{name_at, edge_lines, moved_lines};
 
 use crate::named::{name_of, phase_of};
 use cells::cell::Cell;
-use cells::lines::step_seen;
+use cells::lines::{answer_devices, drive_devices, step_seen};
 use cells::witness::Witness;
 use channel::phase::Phase;
 use trace::sheet::Sheet;
@@ -25,8 +25,11 @@ pub fn put_moved(name: &[u8], before: Phase, phase: Phase, sheet: &mut Sheet<'_>
 pub fn put_change(cells: &[Cell], i: usize, before: Phase, sheet: &mut Sheet<'_>)
     ensures { Adds sheet.old sheet.new (edge_lines sheet.old.tick.now (name_at cells.now) (change before (phase_at cells.now i) i)) }
 {
-    let name = name_of(cells, i);
-    put_moved(name.as_bytes(), before, phase_of(cells, i), sheet);
+    let phase = phase_of(cells, i);
+    if before != phase {
+        let name = name_of(cells, i);
+        put_moved(name.as_bytes(), before, phase, sheet);
+    }
 }
 
 // Writes a line for each edge that it sees.
@@ -48,6 +51,22 @@ impl Witness for Tracing<'_, '_> {
     fn see(&mut self, cells: &[Cell], i: usize, before: Phase) {
         put_change(cells, i, before, self.sheet);
     }
+}
+
+// Line i drives its devices; the first's edge is written before the second's.
+pub fn drive_traced(cells: &mut [Cell], i: usize, sheet: &mut Sheet<'_>)
+    ensures cells { cells.new ≡ drive_line i cells.old }
+    ensures lines { Adds sheet.old sheet.new (edge_lines sheet.old.tick.now (name_at cells.old) (drive_edges i cells.old)) }
+{
+    drive_devices(cells, i, &mut Tracing { sheet });
+}
+
+// Line i answers.
+pub fn answer_traced(cells: &mut [Cell], i: usize, sheet: &mut Sheet<'_>)
+    ensures cells { cells.new ≡ answer_line i cells.old }
+    ensures lines { Adds sheet.old sheet.new (edge_lines sheet.old.tick.now (name_at cells.old) (answer_edges i cells.old)) }
+{
+    answer_devices(cells, i, &mut Tracing { sheet });
 }
 
 // One step of the first n lines: lines from last to first drive, lines from first to last answer.

@@ -2,16 +2,12 @@ use Rattle.std.proofs.Common.{◌≡◌, Bool, true, false, cond, not, [], ◌�
 use Rattle.trace.specs.Texts.{edge_text}
 use Rattle.trace.specs.Written.{Adds}
 use Rattle.trace.proofs.Lays.{adds_none, adds_one}
-use Rattle.edges.proofs.Writes.{same_numbers}
+use Rattle.edges.proofs.Writes.{agrees, same_numbers}
 use Rattle.edges.proofs.passes.put_moved.Goals as goal
 
 differs : (b : Bool) → true ≡ not b → false ≡ b
 differs true e = sym e
 differs false e = refl
-
-agrees : (b : Bool) → false ≡ not b → true ≡ b
-agrees true e = refl
-agrees false e = sym e
 
 pub returns-then-ne : goal.returns-then-ne
 returns-then-ne c =
