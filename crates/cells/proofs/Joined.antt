@@ -11,20 +11,24 @@ use Rattle.joins.specs.declared.rules.Drive.{Drive}
 use Rattle.joins.specs.declared.rules.Drive.TheVariants.{Nothing, Lower, Raise}
 use Rattle.joins.specs.declared.join.Join.{Join}
 use Rattle.joins.specs.Rules.{DriveMakes}
-use Rattle.joins.specs.Join.{join_means, join_time, join_makes}
+use Rattle.joins.specs.Join.{join_means, join_time, JoinOrder, join_makes}
 use Rattle.cells.specs.Bodies.{answered_end}
 use Rattle.cells.specs.Nests.{Nest, empty, timed_leaf, work_leaf, join, nest_means, nest_timing, NestOrder, drive_nest, wish_first, wish_second, turn, reset_nest, nest_after}
 
 -- what the trait of devices says of a nested tree
 abbrev pub nested : device.Ghosts Nest
-nested = record { means = nest_means; timing = nest_timing; makes = λ c s t. t ≡ nest_after c s }
+nested = record { means = nest_means; timing = nest_timing; ordered = NestOrder; makes = λ c s t. t ≡ nest_after c s }
 
 abbrev pub ruled : Kind → rule.Ghosts Unit
 ruled k = record { KIND = k }
 
 -- a join of the tree as the library's join over nested devices
-abbrev pub as_join : (k : Kind) (q : QEnd) (a b : Nest) → NestOrder (join k q a b) → Join Unit Nest Nest (ruled k) nested nested
-as_join k q a b o = record { rule = record {}; end = q; first = a; second = b; together = ∣ o.2 ∣₁; sequence = ∣ o.3 ∣₁ }
+abbrev pub as_join : QEnd → Nest → Nest → Join Unit Nest Nest
+as_join q a b = record { rule = record {}; end = q; first = a; second = b }
+
+-- it is in order where the nested tree is
+pub joined_order : (k : Kind) (q : QEnd) (a b : Nest) → NestOrder (join k q a b) → JoinOrder (ruled k) nested nested (as_join q a b)
+joined_order k q a b o = record { first = o.0; second = o.1; together = o.2; sequence = o.3 }
 
 -- a driven device that steps has turned
 turn_driven : (w : Drive) (t : Nest) → turn w t ≡ turn Nothing (drive_nest w t)
@@ -68,18 +72,18 @@ joined_after call.Raise k q a b = refl
 joined_after call.Step k q a b = refl
 joined_after call.Restart k q a b = refl
 
-module _ (k : Kind) (q : QEnd) (a b : Nest) (o : NestOrder (join k q a b)) where
-  pub joined_means : join_means (as_join k q a b o) ≡ nest_means (join k q a b)
+module _ (k : Kind) (q : QEnd) (a b : Nest) where
+  pub joined_means : join_means nested nested (as_join q a b) ≡ nest_means (join k q a b)
   joined_means = refl
 
-  pub joined_time : join_time (as_join k q a b o) ≡ nest_timing (join k q a b)
+  pub joined_time : join_time (ruled k) nested nested (as_join q a b) ≡ nest_timing (join k q a b)
   joined_time = refl
 
-  pub joined_makes : (c : Call) (n : NestOrder (join k (end_after c k q a b) (first_after c k q a b) (second_after c k q a b)))
-      → join_makes c (as_join k q a b o) (as_join k (end_after c k q a b) (first_after c k q a b) (second_after c k q a b) n)
-  joined_makes call.Lower n = record { lowered = refl; apart = record { same_first = refl; same_second = refl } }
-  joined_makes call.Raise n = record { raised = refl; apart = record { same_first = refl; same_second = refl } }
-  joined_makes call.Step n = record {
+  pub joined_makes : (c : Call)
+      → join_makes (ruled k) nested nested c (as_join q a b) (as_join (end_after c k q a b) (first_after c k q a b) (second_after c k q a b))
+  joined_makes call.Lower = record { lowered = refl; apart = record { same_first = refl; same_second = refl } }
+  joined_makes call.Raise = record { raised = refl; apart = record { same_first = refl; same_second = refl } }
+  joined_makes call.Step = record {
     first_mid = drive_nest (wish_first k q a b) a;
     second_mid = drive_nest (wish_second k q a b) b;
     first_driven = drive_made (wish_first k q a b) a;
@@ -89,4 +93,4 @@ module _ (k : Kind) (q : QEnd) (a b : Nest) (o : NestOrder (join k q a b)) where
     notes = refl;
     decides = refl;
   }
-  joined_makes call.Restart n = record { first_reset = refl; second_reset = refl; rests = refl }
+  joined_makes call.Restart = record { first_reset = refl; second_reset = refl; rests = refl }

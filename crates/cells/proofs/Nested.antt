@@ -11,11 +11,11 @@ use Rattle.leaves.specs.Work as work
 use Rattle.joins.specs.declared.rules.Drive.{Drive}
 use Rattle.joins.specs.declared.rules.Drive.TheVariants.{Nothing, Lower, Raise}
 use Rattle.joins.specs.Turns.{Drove, driven}
-use Rattle.joins.proofs.Whole.{Went, both_stopped_sequence, both_went, held, in_sequence, lowers, raises, resets, together_lowered, together_raised}
+use Rattle.joins.proofs.Whole.{Went, both_stopped_sequence, both_went, lowers, raises, resets, together_lowered, together_raised}
 use Rattle.cells.specs.Bodies.{driven_end, drive_timed, drive_work}
 use Rattle.cells.specs.Nests.{Nest, empty, timed_leaf, work_leaf, join, nest_means, nest_timing, EmptyAt, NestOrder, empty_step, drive_nest, wish_first, wish_second, turn, reset_nest}
 use Rattle.cells.specs.Ordered.{nest_in_order}
-use Rattle.cells.proofs.Joined.{as_join}
+use Rattle.cells.proofs.Joined.{joined_order}
 use Rattle.cells.proofs.Leaf.{timed_lowers, timed_raises, timed_steps, timed_ticks, work_lowers, work_raises, work_steps, work_ticks}
 
 -- what a drive keeps
@@ -75,7 +75,7 @@ drive_kept Lower (work_leaf v) o = record {
   kept = tt;
 }
 drive_kept Lower (join k q a b) o =
-    let h = held (as_join k q a b o) in
+    let h = (joined_order k q a b o).together in
     record {
       drove = lowers q.phase q.denier (nest_means a) (nest_means b) h (nest_in_order a o.0).sound (nest_in_order b o.1).sound;
       undriven = λ e. grind arith;
@@ -101,7 +101,7 @@ drive_kept Raise (work_leaf v) o = record {
   kept = tt;
 }
 drive_kept Raise (join k q a b) o =
-    let h = held (as_join k q a b o) in
+    let h = (joined_order k q a b o).together in
     record {
       drove = raises q.phase q.denier (nest_means a) (nest_means b) h;
       undriven = λ e. grind arith;
@@ -148,10 +148,10 @@ turn_kept w (join k q a b) o =
     let e = driven_end w q in
     let wa = wish_first k e a b in
     let wb = wish_second k e a b in
-    let j = as_join k e a b m in
+    let j = joined_order k e a b m in
     let ka = turn_kept wa a m.0 in
     let kb = turn_kept wb b m.1 in
-    let r = both_went k nest_means nest_timing nest_means nest_timing e.phase e.denier a (turn wa a) b (turn wb b) (held j) (in_sequence j)
+    let r = both_went k nest_means nest_timing nest_means nest_timing e.phase e.denier a (turn wa a) b (turn wb b) j.together j.sequence
     (went wa a m.0 (drive_kept wa a m.0) ka) (went wb b m.1 (drive_kept wb b m.1) kb) in
     record { stepped = r.order; ticked = r.pace; kept = (ka.kept, kb.kept, r.together, r.sequence) }
 

@@ -40,13 +40,16 @@ pub enum Call {
     Restart,
 }
 
-// A device at the lower end of a Q-Channel. Every value of it is in order.
+// A device at the lower end of a Q-Channel.
 pub trait QDevice {
     // phase, leaves from left to right, denier
     ghost means: { Self → Means };
 
     // bound, and steps left in an open phase
     ghost timing: { Self → Timing };
+
+    // the implementation's own part of being in order, where its type does not hold it
+    ghost ordered: { Self → Type 0 };
 
     // what a call makes of the whole value, to the last field
     ghost makes: { Call → Self → Self → Type 0 };
@@ -79,28 +82,32 @@ pub trait QDevice {
     fn lower(&mut self) -> Result<(), Refusal>
         ensures answer { result ≡ lower_answer (means self.old).phase }
         ensures exact { makes Lower self.old self.new }
-        ensures order { Lowered (means self.old) (means self.new) }
-        ensures pace { Charged result (timing self.old) (timing self.new) };
+        ensures order { ordered self.old → Lowered (means self.old) (means self.new) }
+        ensures pace { Charged result (timing self.old) (timing self.new) }
+        ensures kept { ordered self.old → ordered self.new };
 
     // Wakes a stopped device, or takes a denied request back.
     fn raise(&mut self) -> Result<(), Refusal>
         ensures answer { result ≡ raise_answer (means self.old).phase }
         ensures exact { makes Raise self.old self.new }
-        ensures order { Raised (means self.old) (means self.new) }
-        ensures pace { Charged result (timing self.old) (timing self.new) };
+        ensures order { ordered self.old → Raised (means self.old) (means self.new) }
+        ensures pace { Charged result (timing self.old) (timing self.new) }
+        ensures kept { ordered self.old → ordered self.new };
 
     // Lets one step pass.
     fn step(&mut self)
         ensures exact { makes Step self.old self.new }
-        ensures order { Stepped (means self.old) (means self.new) }
-        ensures pace { Ticked (means self.old).phase (means self.new).phase (timing self.old) (timing self.new) };
+        ensures order { ordered self.old → Stepped (means self.old) (means self.new) }
+        ensures pace { ordered self.old → Ticked (means self.old).phase (means self.new).phase (timing self.old) (timing self.new) }
+        ensures kept { ordered self.old → ordered self.new };
 
-    // Leads from anything to Stopped.
+    // Leads from anything to Stopped, in order.
     fn reset(&mut self)
         ensures exact { makes Restart self.old self.new }
         ensures order { Reset (means self.old) (means self.new) }
-        ensures pace { (timing self.new).bound ≡ (timing self.old).bound };
+        ensures pace { (timing self.new).bound ≡ (timing self.old).bound }
+        ensures kept { ordered self.new };
 
-    // phase, leaves and denier agree, and steps are left
-    ghost in_order: { (d : Self) → InOrder means timing d };
+    // in order: phase, leaves and denier agree, and steps are left
+    ghost in_order: { (d : Self) → ordered d → InOrder means timing d };
 }

@@ -1,5 +1,5 @@
 -- The calls of a converter over any device, from the laws over meanings.
-use Rattle.std.proofs.Common.{◌≡◌, ℕ, Bool, cond, is_some, is_ok, None, Option, Result, refl, ap, ◌∙◌, subst}
+use Rattle.std.proofs.Common.{arith, ◌≡◌, ℕ, Bool, cond, is_some, is_ok, None, Option, Result, refl, ap, ◌∙◌, subst}
 use Rattle.channel.specs.declared.pphase.PPhase.{PPhase}
 use Rattle.channel.specs.declared.pphase.PPhase.TheVariants as p
 use Rattle.channel.specs.declared.device.QDevice as device
@@ -18,11 +18,10 @@ use Rattle.converter.specs.declared.rules.Mode.{Mode}
 use Rattle.converter.specs.declared.rules.Mode.TheVariants as mode
 use Rattle.converter.specs.declared.converter.Converter.{Converter}
 use Rattle.converter.specs.Rules.{mode_of, task_of, task_drive, task_note, next_phase, next_state}
-use Rattle.converter.specs.Over.{power, Over, RestAt, converter_view, converter_timing}
+use Rattle.converter.specs.Over.{power, Over, RestAt, Asked, converter_view, converter_timing}
 use Rattle.converter.specs.declared.refusal.PRefusal.{PRefusal}
 use Rattle.converter.specs.Converter.{ask_answer, used_answer, drop_answer, dropped, AskMade, DropMade, Links}
 use Rattle.converter.specs.Shows.{converter_fits}
-use Rattle.converter.specs.Certain.{over_certain}
 use Rattle.converter.proofs.Laws.{next_mode, keeps_over, ticks, runs, stays, asks}
 
 -- the mode of the next state is the next mode
@@ -46,9 +45,9 @@ pub record StepKept (q : PPhase) (s a : ℕ) (d : Option ℕ) (m n : Means) (t u
       (converter_timing r (mode_of z) (mode_of b) e n.phase u)
   pub over : Over r (mode_of z) (mode_of b) e n
 
-module _ {D : Type 0} (md : D → Means) (td : D → Timing) (l : (x : D) → InOrder md td x) (q : PPhase) (s a : ℕ) (d : Option ℕ) (x mid y : D)
+module _ {D : Type 0} (md : D → Means) (td : D → Timing) (q : PPhase) (s a : ℕ) (d : Option ℕ) (x mid y : D)
     (w : Drive) (r : PPhase) (z b : ℕ) (e : Option ℕ) where
-  pub steps : Over q (mode_of s) (mode_of a) d (md x)
+  pub steps : InOrder md td x → InOrder md td mid → InOrder md td y → Over q (mode_of s) (mode_of a) d (md x)
       → w ≡ task_drive (task_of q (mode_of s) (mode_of a)) (is_some d) (md x).phase
       → Drove w (md x) (md mid) → (w ≡ Nothing → mid ≡ x) → (td mid).bound ≡ (td x).bound
       → Stepped (md mid) (md y) → Ticked (md mid).phase (md y).phase (td mid) (td y)
@@ -56,20 +55,20 @@ module _ {D : Type 0} (md : D → Means) (td : D → Timing) (l : (x : D) → In
       → r ≡ next_phase q (task_of q (mode_of s) (mode_of a)) (is_some e) (md y).phase
       → z ≡ next_state q r s a → b ≡ a
       → StepKept q s a d (md x) (md y) (td x) (td y) r z b e
-  steps h ew drove idle bound stepped ticked n p i j =
+  steps ox om oy h ew drove idle bound stepped ticked n p i j =
       let sb = mode_of s in
       let ab = mode_of a in
       let f : Went md td (task_drive (task_of q sb ab) (is_some d) (md x).phase) x y =
       subst (λ u. Went md td u x y) ew (record {
         mid = mid;
-        before = l x;
+        before = ox;
         drove = drove;
         undriven = idle;
         mid_bound = bound;
-        between = l mid;
+        between = om;
         stepped = stepped;
         ticked = ticked;
-        after = l y;
+        after = oy;
       }) in
       let turned = went_turned md td _ x y f in
       let es : mode_of z ≡ next_mode q r sb ab = ap mode_of i ∙ next_is q r s a in
@@ -158,29 +157,65 @@ module _ (q : PPhase) (s a : Mode) (d : Option ℕ) (m : Means) (h : Over q s a 
       by p.Denied = refl
       by p.Continue = refl
 
-module _ {D : Type 0} {d : device.Ghosts D} where
-  pub held : (c : Converter D d) → Over c.phase (mode_of c.state) (mode_of c.asked) c.denier (d.means c.device)
-  held c = over_certain c.phase (mode_of c.state) (mode_of c.asked) c.denier (d.means c.device) c.over
+-- a used state asked for at rest
+asks_over : (s a : Mode) (m : Means) → RestAt s m → (a ≡ mode.Unused → ⊥) → Asked s a None m
+asks_over s a m r u = grind arith
 
-  module _ (l : (x : D) → InOrder d.means d.timing x) where
-    pub ask_links : (n : ℕ) (b c : Converter D d) (o : Result Unit PRefusal) → o ≡ ask_answer b.phase n → AskMade n b c → Links stop (is_ok o) b c
-    ask_links n b c o e h =
+-- after an ask or a drop the device, which stays as it is, still goes with the converter
+ask_over : (q : PPhase) (s a n : ℕ) (e : Option ℕ) (m : Means) → Over q (mode_of s) (mode_of a) e m
+    → Over (cond (is_ok (ask_answer q n)) p.Request q) (mode_of s) (mode_of (cond (is_ok (ask_answer q n)) n a)) (cond (is_ok (ask_answer q n)) None e) m
+ask_over q s a n e m h = by q h
+  where
+    used : (u : Mode) → mode_of n ≡ u → RestAt (mode_of s) m
+        → Over (cond (is_ok (used_answer u)) p.Request p.Stable) (mode_of s) (mode_of (cond (is_ok (used_answer u)) n a)) (cond (is_ok (used_answer u)) None e) m
+    used mode.Unused i r = r
+    used mode.Stop i r = asks_over (mode_of s) (mode_of n) m r (λ j. grind arith)
+    used mode.Run i r = asks_over (mode_of s) (mode_of n) m r (λ j. grind arith)
+
+    by : (q : PPhase) → Over q (mode_of s) (mode_of a) e m
+        → Over (cond (is_ok (ask_answer q n)) p.Request q) (mode_of s) (mode_of (cond (is_ok (ask_answer q n)) n a)) (cond (is_ok (ask_answer q n)) None e) m
+    by p.Stable h = used (mode_of n) refl h
+    by p.Request h = h
+    by p.Accept h = h
+    by p.Complete h = h
+    by p.Denied h = h
+    by p.Continue h = h
+
+drop_over : (q : PPhase) (s a : Mode) (d : Option ℕ) (m : Means) → Over q s a d m → Over (dropped q) s a d m
+drop_over p.Stable s a d m h = h
+drop_over p.Request s a d m h = h
+drop_over p.Accept s a d m h = h
+drop_over p.Complete s a d m h = h
+drop_over p.Denied s a d m h = h
+drop_over p.Continue s a d m h = h
+
+module _ {D : Type 0} {d : device.Ghosts D} where
+  module _ (l : (x : D) → d.ordered x → InOrder d.means d.timing x) where
+    pub ask_links : (n : ℕ) (b c : Converter D) (o : Result Unit PRefusal) → o ≡ ask_answer b.phase n → AskMade n b c → Links d stop (is_ok o) b c
+    ask_links n b c o e h w =
         let m = d.means b.device in
-        let s = (l b.device).sound in
+        let s = (l b.device w.device).sound in
         record {
-          called = rw (e, h.phase_is, h.same_state, h.denier_is, h.same_device) (ask_called b.phase b.state b.asked n b.denier m s (held b));
+          called = rw (e, h.phase_is, h.same_state, h.denier_is, h.same_device) (ask_called b.phase b.state b.asked n b.denier m s w.over);
           timed = rw (e, h.phase_is, h.same_state, h.asked_is, h.denier_is, h.same_device)
-              (ask_timed b.phase b.state b.asked n b.denier m s (held b) (d.timing b.device));
-          fit = converter_fits l c;
+              (ask_timed b.phase b.state b.asked n b.denier m s w.over (d.timing b.device));
+          fit = converter_fits l c (record {
+            device = rw h.same_device w.device;
+            over = rw (h.phase_is, h.same_state, h.asked_is, h.denier_is, h.same_device) (ask_over b.phase b.state b.asked n b.denier m w.over);
+          });
         }
 
-    pub drop_links : (b c : Converter D d) (o : Result Unit PRefusal) → o ≡ drop_answer b.phase → DropMade b c → Links back (is_ok o) b c
-    drop_links b c o e h =
+    pub drop_links : (b c : Converter D) (o : Result Unit PRefusal) → o ≡ drop_answer b.phase → DropMade b c → Links d back (is_ok o) b c
+    drop_links b c o e h w =
         let m = d.means b.device in
         record {
           called = rw (e, h.phase_is, h.same_state, h.same_denier, h.same_device)
-              (drop_called b.phase (mode_of b.state) (mode_of b.asked) b.denier m (held b));
+              (drop_called b.phase (mode_of b.state) (mode_of b.asked) b.denier m w.over);
           timed = rw (e, h.phase_is, h.same_state, h.same_asked, h.same_denier, h.same_device)
-              (drop_timed b.phase (mode_of b.state) (mode_of b.asked) b.denier m (held b) (d.timing b.device));
-          fit = converter_fits l c;
+              (drop_timed b.phase (mode_of b.state) (mode_of b.asked) b.denier m w.over (d.timing b.device));
+          fit = converter_fits l c (record {
+            device = rw h.same_device w.device;
+            over = rw (h.phase_is, h.same_state, h.same_asked, h.same_denier, h.same_device)
+                (drop_over b.phase (mode_of b.state) (mode_of b.asked) b.denier m w.over);
+          });
         }

@@ -16,8 +16,7 @@ use Rattle.converter.specs.declared.rules.Mode.TheVariants as mode
 use Rattle.converter.specs.declared.converter.Converter.{Converter}
 use Rattle.converter.specs.Rules.{mode_of}
 use Rattle.converter.specs.Over.{power, converter_view, RestAt, Over, converter_timing}
-use Rattle.converter.specs.Certain.{over_certain}
-use Rattle.converter.specs.Converter.{view_of, time_of}
+use Rattle.converter.specs.Converter.{view_of, time_of, ConverterOrder}
 
 -- what a converter shows is so
 rest_truly : (s : Mode) (m : Means) → Sound m → RestAt s m → (d : Option ℕ) → Truly (converter_view p.Stable s d m)
@@ -55,11 +54,12 @@ pub in_time : (q : PPhase) (s a : Mode) (d : Option ℕ) (m : Means) (t : Timing
 in_time q s a d m t h k = record { some_left = grind arith; at_most = grind arith }
 
 module _ {D : Type 0} {d : device.Ghosts D} where
-  pub converter_fits : ((x : D) → InOrder d.means d.timing x) → (c : Converter D d) → Fit (λ _. Unit {0}) view_of time_of c
-  converter_fits f c =
-      let h = over_certain c.phase (mode_of c.state) (mode_of c.asked) c.denier (d.means c.device) c.over in
+  pub converter_fits : ((x : D) → d.ordered x → InOrder d.means d.timing x)
+      → (c : Converter D) → ConverterOrder d c → Fit (ConverterOrder d) (view_of d) (time_of d) c
+  converter_fits f c w =
+      let o = f c.device w.device in
       record {
-        own = tt;
-        truly = truly c.phase _ (mode_of c.asked) c.denier (d.means c.device) (f c.device).sound h;
-        in_time = in_time c.phase _ (mode_of c.asked) c.denier (d.means c.device) (d.timing c.device) h (f c.device).timely;
+        own = w;
+        truly = truly c.phase _ (mode_of c.asked) c.denier (d.means c.device) o.sound w.over;
+        in_time = in_time c.phase _ (mode_of c.asked) c.denier (d.means c.device) (d.timing c.device) w.over o.timely;
       }

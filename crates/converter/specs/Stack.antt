@@ -14,17 +14,17 @@ p_kind (Ask n) = stop
 p_kind Drop = back
 p_kind Step = tick
 
-module _ {D : Type 0} {d : device.Ghosts D} where
-  -- a call's answer, by the converter before it: no step is refused
-  abbrev pub p_answer : PCall → Converter D d → Result Unit PRefusal
-  p_answer (Ask n) x = ask_answer x.phase n
-  p_answer Drop x = drop_answer x.phase
-  p_answer Step x = Ok tt
+-- a call's answer, by the converter before it: no step is refused
+abbrev pub p_answer : {D : Type 0} → PCall → Converter D → Result Unit PRefusal
+p_answer (Ask n) x = ask_answer x.phase n
+p_answer Drop x = drop_answer x.phase
+p_answer Step x = Ok tt
 
-  abbrev pub p_makes : PCall → Bool → Converter D d → Converter D d → Type 0
+module _ {D : Type 0} (d : device.Ghosts D) where
+  abbrev pub p_makes : PCall → Bool → Converter D → Converter D → Type 0
   p_makes (Ask n) b x y = (b ≡ is_ok (ask_answer x.phase n)) × AskMade n x y
   p_makes Drop b x y = (b ≡ is_ok (drop_answer x.phase)) × DropMade x y
-  p_makes Step b x y = (b ≡ true) × StepMade x y
+  p_makes Step b x y = (b ≡ true) × StepMade d x y
 
-  abbrev pub p_resets : Converter D d → Converter D d → Type 0
-  p_resets x y = StartMade x.device y
+  abbrev pub p_resets : Converter D → Converter D → Type 0
+  p_resets x y = StartMade d x.device y

@@ -1,7 +1,4 @@
 // A P-Channel end over any Q device.
-ghost use Rattle.converter.specs.Rules.{mode_of};
-ghost use Rattle.converter.specs.Over.{Over};
-
 pub use crate::refusal::PRefusal;
 use crate::rules::{Mode, drive_for, next_phase, next_state, note_for, task_for};
 use channel::device::QDevice;
@@ -10,19 +7,17 @@ use channel::signals::Signals;
 use joins::drive::make_drive;
 use joins::rules::heard_of;
 
-// Its phase, state and denier go with its device.
 #[derive(Drop)]
-pub struct Converter<D: QDevice> {
+pub struct Converter<D> {
     device: D,
     phase: PPhase,
     state: u8,
     // the state of the latest ask
     asked: u8,
     denier: Option<u32>,
-    ghost over: { ∥ Over phase (mode_of state) (mode_of asked) denier (D.means device) ∥₁ },
 }
 
-impl<D: QDevice> Converter<D> {
+impl<D> Converter<D> {
     ghost use Rattle.std.specs.Prelude.{◌≡◌};
     ghost use Rattle.channel.specs.PPhases.{p_levels};
 
@@ -65,14 +60,15 @@ impl<D: QDevice> Converter<D> {
     ghost use Rattle.channel.specs.Calls.{Reset};
     ghost use Rattle.pile.specs.Calls.{stop, back, tick};
     ghost use Rattle.pile.specs.Views.{Begun};
-    ghost use Rattle.converter.specs.Converter.{ask_answer, drop_answer, AskMade, DropMade, StepMade, StartMade, Links, view_of, time_of};
+    ghost use Rattle.converter.specs.Converter.{ask_answer, drop_answer, AskMade, DropMade, StepMade, StartMade, ConverterOrder, Links, view_of, time_of};
 
     // A converter over a device, which it resets. It starts at Stable in state 0.
     pub fn new(mut device: D) -> Self
-        ensures made { StartMade device result }
-        ensures begun { Begun (view_of result) }
+        ensures made { StartMade D.QDevice device result }
+        ensures begun { Begun (view_of D.QDevice result) }
+        ensures kept { ConverterOrder D.QDevice result }
         ensures leaves { tags (D.means result.device).leaves ≡ tags (D.means device).leaves }
-        ensures bound { (time_of result).bound ≡ 2 * (D.timing device).bound }
+        ensures bound { (time_of D.QDevice result).bound ≡ 2 * (D.timing device).bound }
     {
         device.reset();
         Converter {
@@ -89,7 +85,7 @@ impl<D: QDevice> Converter<D> {
         ensures answer { result ≡ ask_answer self.old.phase state }
         ensures exact { AskMade state self.old self.new }
         ensures refused { OnErr result (self.new ≡ self.old) }
-        ensures linked { Links stop (is_ok result) self.old self.new }
+        ensures linked { Links D.QDevice stop (is_ok result) self.old self.new }
     {
         match (self.phase, Mode::from(state)) {
             (PPhase::Stable, Mode::Unused) => Err(PRefusal::StateUnused),
@@ -108,7 +104,7 @@ impl<D: QDevice> Converter<D> {
         ensures answer { result ≡ drop_answer self.old.phase }
         ensures exact { DropMade self.old self.new }
         ensures refused { OnErr result (self.new ≡ self.old) }
-        ensures linked { Links back (is_ok result) self.old self.new }
+        ensures linked { Links D.QDevice back (is_ok result) self.old self.new }
     {
         self.phase = match self.phase {
             PPhase::Accept => PPhase::Complete,
@@ -120,8 +116,8 @@ impl<D: QDevice> Converter<D> {
 
     // Lets one step pass.
     pub fn step(&mut self)
-        ensures exact { StepMade self.old self.new }
-        ensures linked { Links tick true self.old self.new }
+        ensures exact { StepMade D.QDevice self.old self.new }
+        ensures linked { Links D.QDevice tick true self.old self.new }
     {
         let from = self.phase;
         let task = task_for(from, self.state.into(), self.asked.into());
@@ -135,9 +131,10 @@ impl<D: QDevice> Converter<D> {
 
     // Leads from anything to Stable in state 0, with the device reset.
     pub fn reset(&mut self)
-        ensures exact { StartMade self.old.device self.new }
+        ensures exact { StartMade D.QDevice self.old.device self.new }
+        ensures kept { ConverterOrder D.QDevice self.new }
         ensures device { Reset (D.means self.old.device) (D.means self.new.device) }
-        ensures bound { (time_of self.new).bound ≡ (time_of self.old).bound }
+        ensures bound { (time_of D.QDevice self.new).bound ≡ (time_of D.QDevice self.old).bound }
     {
         self.device.reset();
         self.phase = PPhase::Stable;

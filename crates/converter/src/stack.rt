@@ -1,7 +1,7 @@
 // A converter is a pile: the promise holds of it over any device.
 ghost use Rattle.std.specs.Prelude.{◌≡◌};
 ghost use Rattle.pile.specs.Runs.{Promised};
-ghost use Rattle.converter.specs.Converter.{view_of, time_of};
+ghost use Rattle.converter.specs.Converter.{view_of, time_of, ConverterOrder};
 ghost use Rattle.converter.specs.Shows.{converter_fits};
 ghost use Rattle.converter.specs.Stack.{p_kind, p_answer, p_makes, p_resets};
 
@@ -24,9 +24,11 @@ impl<D: QDevice> Pile for Converter<D> {
 
     type Refusal = PRefusal;
 
-    ghost view = { view_of };
+    ghost view = { view_of D.QDevice };
 
-    ghost timing = { time_of };
+    ghost timing = { time_of D.QDevice };
+
+    ghost ordered = { ConverterOrder D.QDevice };
 
     ghost piled = { λ _. Unit {0} };
 
@@ -34,11 +36,11 @@ impl<D: QDevice> Pile for Converter<D> {
 
     ghost answers = { λ c x r. r ≡ p_answer c x };
 
-    ghost makes = { p_makes };
+    ghost makes = { p_makes D.QDevice };
 
-    ghost resets = { p_resets };
+    ghost resets = { p_resets D.QDevice };
 
-    ghost fits = { λ c _. converter_fits D.in_order c };
+    ghost fits = { converter_fits D.in_order };
 
     fn restart(&mut self) {
         self.reset();
@@ -59,7 +61,7 @@ impl<D: QDevice> Pile for Converter<D> {
 // Resets a converter and makes these calls, one after the other: the promise is kept, with each of the
 // implementation's members by its name.
 pub fn play_converter<D: QDevice>(power: &mut Converter<D>, calls: &[PCall])
-    ensures { Promised (λ _. Unit {0}) view_of time_of p_kind p_makes p_resets calls.now power.old power.new }
+    ensures { Promised (ConverterOrder D.QDevice) (view_of D.QDevice) (time_of D.QDevice) p_kind (p_makes D.QDevice) (p_resets D.QDevice) calls.now power.old power.new }
 {
     play(power, calls)
 }

@@ -2,24 +2,20 @@
 use Rattle.std.proofs.Common.{◌≡◌, ℕ, is_some, Some, None, Option, refl, sym, ap, ◌∙◌, subst, inl, inr, arith}
 use Rattle.channel.specs.declared.phase.Phase.{Phase}
 use Rattle.channel.specs.declared.phase.Phase.TheVariants.{Run, Request, Stopped, Exit, Denied, Continue}
-use Rattle.channel.specs.declared.device.QDevice as device
 use Rattle.channel.specs.Means.{Means, Sound, Lowering}
 use Rattle.channel.specs.Calls.{LowerDone, Lowered, Raised, Stepped, Reset}
 use Rattle.channel.specs.Ends.{end_lowered, end_raised}
 use Rattle.channel.specs.Timing.{Timing, Timely, Ticked}
 use Rattle.channel.specs.Device.{InOrder}
-use Rattle.joins.specs.declared.rule.Rule as rule
 use Rattle.joins.specs.declared.rules.Kind.{Kind}
 use Rattle.joins.specs.declared.rules.Kind.TheVariants.{Distributor, Sequencer}
 use Rattle.joins.specs.declared.rules.Drive.{Drive}
 use Rattle.joins.specs.declared.rules.Drive.TheVariants.{Nothing}
-use Rattle.joins.specs.declared.join.Join.{Join}
 use Rattle.joins.specs.Rules.{first_drive, second_drive}
 use Rattle.joins.specs.Turns.{Drove, Turned}
 use Rattle.joins.specs.Together.{joined, Both, Together, InSequence, denier_after, phase_after}
 use Rattle.joins.specs.Bounds.{join_timing}
 use Rattle.joins.specs.Leaves.{each_++, each_map, tags-++}
-use Rattle.joins.specs.Certain.{together_certain, sequence_certain}
 use Rattle.joins.specs.Ordered.{sound_at, phases_at}
 use Rattle.joins.proofs.Order.{first_may, second_may, Pair, join_stepped, keeps_together, keeps_sequence, turned_phase}
 use Rattle.joins.proofs.Pace.{Paced, SequenceAt, Stays, join_ticked}
@@ -140,13 +136,6 @@ stays Exit (Some t) a b = refl
 stays Denied (Some t) a b = refl
 stays Continue (Some t) a b = refl
 
-module _ {R A B : Type 0} {r : rule.Ghosts R} {a : device.Ghosts A} {b : device.Ghosts B} where
-  pub held : (j : Join R A B r a b) → Together j.end.phase j.end.denier (a.means j.first) (b.means j.second)
-  held j = together_certain j.end.phase j.end.denier (a.means j.first) (b.means j.second) j.together
-
-  pub in_sequence : (j : Join R A B r a b) → InSequence r.KIND (a.means j.first) (b.means j.second)
-  in_sequence j = sequence_certain r.KIND (a.means j.first) (b.means j.second) j.sequence
-
 -- a step of a join at phase p with denier d: the law over meanings and the law over bounds, put together
 pub record StepKept (k : Kind) (p : Phase) (d : Option ℕ) (a b x y : Means) (ta tb tx ty : Timing) : Type 0 where
   pub order : Stepped (joined p d a b) (joined (phase_after p d x y) (denier_after p d x y) x y)
@@ -186,39 +175,40 @@ module _ {A B : Type 0} (k : Kind) (ma : A → Means) (ta : A → Timing) (mb : 
         sequence = keeps_sequence k p (is_some d) (ma i) _ (ma x) (mb j) _ (mb y) sq a b;
       }
 
--- the same by what the calls say, where every device is in order
+-- the same by what the calls say
 module _ {A B : Type 0} (k : Kind) (ma : A → Means) (ta : A → Timing) (mb : B → Means) (tb : B → Timing)
-    (la : (z : A) → InOrder ma ta z) (lb : (z : B) → InOrder mb tb z) (p : Phase) (d : Option ℕ) (i m x : A) (j n y : B) (w v : Drive) where
-  pub steps : Together p d (ma i) (mb j) → InSequence k (ma i) (mb j)
+    (p : Phase) (d : Option ℕ) (i m x : A) (j n y : B) (w v : Drive) where
+  pub steps : InOrder ma ta i → InOrder ma ta m → InOrder ma ta x → InOrder mb tb j → InOrder mb tb n → InOrder mb tb y
+      → Together p d (ma i) (mb j) → InSequence k (ma i) (mb j)
       → w ≡ first_drive k p (is_some d) (ma i).phase (mb j).phase → v ≡ second_drive k p (is_some d) (ma i).phase (mb j).phase
       → Drove w (ma i) (ma m) → (w ≡ Nothing → m ≡ i) → (ta m).bound ≡ (ta i).bound
       → Stepped (ma m) (ma x) → Ticked (ma m).phase (ma x).phase (ta m) (ta x)
       → Drove v (mb j) (mb n) → (v ≡ Nothing → n ≡ j) → (tb n).bound ≡ (tb j).bound
       → Stepped (mb n) (mb y) → Ticked (mb n).phase (mb y).phase (tb n) (tb y)
       → StepKept k p d (ma i) (mb j) (ma x) (mb y) (ta i) (tb j) (ta x) (tb y)
-  steps h sq ew ev fd fi fb fs ft gd gi gb gs gt =
+  steps oi om ox oj on oy h sq ew ev fd fi fb fs ft gd gi gb gs gt =
       both_went k ma ta mb tb p d i x j y h sq
       (subst (λ u. Went ma ta u i x) ew (record {
         mid = m;
-        before = la i;
+        before = oi;
         drove = fd;
         undriven = fi;
         mid_bound = fb;
-        between = la m;
+        between = om;
         stepped = fs;
         ticked = ft;
-        after = la x;
+        after = ox;
       }))
       (subst (λ u. Went mb tb u j y) ev (record {
         mid = n;
-        before = lb j;
+        before = oj;
         drove = gd;
         undriven = gi;
         mid_bound = gb;
-        between = lb n;
+        between = on;
         stepped = gs;
         ticked = gt;
-        after = lb y;
+        after = oy;
       }))
 
 -- a join over two devices just reset

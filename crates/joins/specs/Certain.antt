@@ -1,14 +1,18 @@
--- What a join holds in its type, as it stands: a fact of which a proof is known to exist.
+-- The order of a join, where a proof of it is only known to exist: what a struct can hold of its own join.
 use Rattle.std.specs.Prelude.{◌≡◌, ℕ, ◌⊎◌, Some, None, Option}
 use Rattle.std.proofs.Common.{inl, inr, refl, ap, arith}
 use Rattle.std.proofs.Props.{props}
 use Rattle.std.proofs.Math.Logic.{∥∥₁_elim}
 use Rattle.channel.specs.declared.phase.Phase.{Phase}
 use Rattle.channel.specs.declared.phase.Phase.TheVariants.{Run, Request, Stopped, Exit, Denied, Continue}
+use Rattle.channel.specs.declared.device.QDevice as device
 use Rattle.channel.specs.Means.{Means, Has, Waking}
+use Rattle.joins.specs.declared.rule.Rule as rule
 use Rattle.joins.specs.declared.rules.Kind.{Kind}
 use Rattle.joins.specs.declared.rules.Kind.TheVariants.{Distributor, Sequencer}
+use Rattle.joins.specs.declared.join.Join.{Join}
 use Rattle.joins.specs.Together.{Asking, Firm, Together, InSequence}
+use Rattle.joins.specs.Join.{JoinOrder}
 
 pub sum-prop : {P Q : Type 0} → IsProp P → IsProp Q → (P → Q → ⊥) → IsProp (P ⊎ Q)
 sum-prop p q n (inl x) (inl y) = ap inl (p x y)
@@ -75,3 +79,14 @@ sequence_by a b Continue e h = inr (∥∥₁_elim h (Prim.hlevel props) (λ x. 
 pub sequence_certain : (k : Kind) (a b : Means) → ∥ InSequence k a b ∥₁ → InSequence k a b
 sequence_certain Distributor a b h = tt
 sequence_certain Sequencer a b h = sequence_by a b b.phase refl h
+
+-- a join over devices of which the same holds
+module _ {R A B : Type 0} {r : rule.Ghosts R} {a : device.Ghosts A} {b : device.Ghosts B} where
+  pub join_certain : ((x : A) → ∥ a.ordered x ∥₁ → a.ordered x) → ((y : B) → ∥ b.ordered y ∥₁ → b.ordered y)
+      → (j : Join R A B) → ∥ JoinOrder r a b j ∥₁ → JoinOrder r a b j
+  join_certain f g j h = record {
+    first = f j.first (∥∥₁_elim h (Prim.hlevel props) (λ w. ∣ w.first ∣₁));
+    second = g j.second (∥∥₁_elim h (Prim.hlevel props) (λ w. ∣ w.second ∣₁));
+    together = together_certain j.end.phase j.end.denier (a.means j.first) (b.means j.second) (∥∥₁_elim h (Prim.hlevel props) (λ w. ∣ w.together ∣₁));
+    sequence = sequence_certain r.KIND (a.means j.first) (b.means j.second) (∥∥₁_elim h (Prim.hlevel props) (λ w. ∣ w.sequence ∣₁));
+  }

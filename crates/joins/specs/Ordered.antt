@@ -13,8 +13,7 @@ use Rattle.joins.specs.declared.rules.Kind.TheVariants.{Distributor, Sequencer}
 use Rattle.joins.specs.declared.join.Join.{Join}
 use Rattle.joins.specs.Together.{joined, Asking, Together}
 use Rattle.joins.specs.Bounds.{join_timing}
-use Rattle.joins.specs.Certain.{together_certain}
-use Rattle.joins.specs.Join.{join_means, join_time}
+use Rattle.joins.specs.Join.{join_means, join_time, JoinOrder}
 use Rattle.joins.specs.Leaves.{each_++, each_map, leftmost-++, none_denied}
 
 pub sound_at : (p : Phase) (m : Means) → m.phase ≡ p → Sound m → Agrees p m.leaves m.denier
@@ -98,12 +97,13 @@ phases_at Denied d a b h = tt
 phases_at Continue d a b h = tt
 
 module _ {R A B : Type 0} {r : rule.Ghosts R} {a : device.Ghosts A} {b : device.Ghosts B} where
-  pub join_in_order : ((x : A) → InOrder a.means a.timing x) → ((y : B) → InOrder b.means b.timing y)
-      → (j : Join R A B r a b) → InOrder join_means join_time j
-  join_in_order f g j =
-      let h = together_certain j.end.phase j.end.denier (a.means j.first) (b.means j.second) j.together in
+  pub join_in_order : ((x : A) → a.ordered x → InOrder a.means a.timing x) → ((y : B) → b.ordered y → InOrder b.means b.timing y)
+      → (j : Join R A B) → JoinOrder r a b j → InOrder (join_means a b) (join_time r a b) j
+  join_in_order f g j w =
+      let x = f j.first w.first in
+      let y = g j.second w.second in
       record {
-        sound = join_sound j.end.phase j.end.denier _ _ (f j.first).sound (g j.second).sound h;
-        timely = join_timely r.KIND j.end.phase j.end.denier _ _ _ _ (phases_at j.end.phase j.end.denier (a.means j.first) (b.means j.second) h)
-            (f j.first).timely (g j.second).timely;
+        sound = join_sound j.end.phase j.end.denier _ _ x.sound y.sound w.together;
+        timely = join_timely r.KIND j.end.phase j.end.denier _ _ _ _
+            (phases_at j.end.phase j.end.denier (a.means j.first) (b.means j.second) w.together) x.timely y.timely;
       }

@@ -12,8 +12,7 @@ use Rattle.pile.specs.Runs.{Fit}
 use Rattle.joins.specs.declared.rule.Rule as rule
 use Rattle.joins.specs.declared.join.Join.{Join}
 use Rattle.joins.specs.Together.{joined, Both, Together}
-use Rattle.joins.specs.Join.{join_means, join_time}
-use Rattle.joins.specs.Certain.{together_certain}
+use Rattle.joins.specs.Join.{join_means, join_time, JoinOrder}
 use Rattle.joins.specs.Leaves.{each_++}
 use Rattle.joins.specs.Ordered.{join_sound, join_in_order, run_each}
 
@@ -57,16 +56,14 @@ rest_begun m e s n = record {
   none = n;
 }
 
-module _ {R A B : Type 0} {r : rule.Ghosts R} {a : device.Ghosts A} {b : device.Ghosts B} where
-  abbrev pub join_view : Join R A B r a b → View
-  join_view j = q_view (join_means j)
+abbrev pub join_view : {R A B : Type 0} → device.Ghosts A → device.Ghosts B → Join R A B → View
+join_view a b j = q_view (join_means a b j)
 
-  pub join_fits : ((x : A) → InOrder a.means a.timing x) → ((y : B) → InOrder b.means b.timing y)
-      → (j : Join R A B r a b) → Fit (λ _. Unit {0}) join_view join_time j
-  join_fits f g j =
-      let h = together_certain j.end.phase j.end.denier (a.means j.first) (b.means j.second) j.together in
-      record {
-        own = tt;
-        truly = join_truly j.end.phase j.end.denier _ _ (f j.first).sound (g j.second).sound h;
-        in_time = q_in_time j.end.phase _ (join_in_order f g j).timely;
-      }
+module _ {R A B : Type 0} {r : rule.Ghosts R} {a : device.Ghosts A} {b : device.Ghosts B} where
+  pub join_fits : ((x : A) → a.ordered x → InOrder a.means a.timing x) → ((y : B) → b.ordered y → InOrder b.means b.timing y)
+      → (j : Join R A B) → JoinOrder r a b j → Fit (JoinOrder r a b) (join_view a b) (join_time r a b) j
+  join_fits f g j w = record {
+    own = w;
+    truly = join_truly j.end.phase j.end.denier _ _ (f j.first w.first).sound (g j.second w.second).sound w.together;
+    in_time = q_in_time j.end.phase _ (join_in_order f g j w).timely;
+  }

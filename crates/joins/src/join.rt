@@ -1,6 +1,4 @@
 // Distributor and sequencer over any two devices. They differ in their drives, and so in their bounds.
-ghost use Rattle.joins.specs.Together.{Together, InSequence};
-
 use crate::drive::make_drive;
 pub use crate::rule::{Parallel, Rule, Serial};
 use crate::rules::{decide, first_drive, note, second_drive};
@@ -9,15 +7,12 @@ use channel::end::QEnd;
 use channel::phase::Phase;
 use std::marker::PhantomData;
 
-// The join's own end goes with its two devices, and below a sequencer these are in their order.
 #[derive(Drop)]
-pub struct Join<R: Rule, A: QDevice, B: QDevice> {
+pub struct Join<R, A, B> {
     rule: PhantomData<R>,
     end: QEnd,
     pub(crate) first: A,
     pub(crate) second: B,
-    ghost together: { ∥ Together end.phase end.denier (A.means first) (B.means second) ∥₁ },
-    ghost sequence: { ∥ InSequence R.KIND (A.means first) (B.means second) ∥₁ },
 }
 
 pub type Distributor<A, B> = Join<Parallel, A, B>;
@@ -25,16 +20,16 @@ pub type Distributor<A, B> = Join<Parallel, A, B>;
 pub type Sequencer<A, B> = Join<Serial, A, B>;
 
 impl<R: Rule, A: QDevice, B: QDevice> Join<R, A, B> {
-    ghost use Rattle.std.specs.Prelude.{◌≡◌};
     ghost use Rattle.pile.specs.Views.{Begun};
-    ghost use Rattle.joins.specs.Join.{Made, Holds};
+    ghost use Rattle.joins.specs.Join.{Made, Holds, JoinOrder};
     ghost use Rattle.joins.specs.Shows.{join_view};
 
     // A join over two devices, which it resets. It starts at Stopped.
     pub fn new(mut first: A, mut second: B) -> Self
-        ensures made { Made first second result }
-        ensures holds { Holds first second result }
-        ensures begun { Begun (join_view result) }
+        ensures made { Made A.QDevice B.QDevice first second result }
+        ensures holds { Holds R.Rule A.QDevice B.QDevice first second result }
+        ensures begun { Begun (join_view A.QDevice B.QDevice result) }
+        ensures kept { JoinOrder R.Rule A.QDevice B.QDevice result }
     {
         first.reset();
         second.reset();
@@ -45,6 +40,10 @@ impl<R: Rule, A: QDevice, B: QDevice> Join<R, A, B> {
             second,
         }
     }
+}
+
+impl<R, A, B> Join<R, A, B> {
+    ghost use Rattle.std.specs.Prelude.{◌≡◌};
 
     // The device that is driven and noted first.
     pub fn first(&self) -> &A
@@ -61,14 +60,16 @@ impl<R: Rule, A: QDevice, B: QDevice> Join<R, A, B> {
 }
 
 impl<R: Rule, A: QDevice, B: QDevice> QDevice for Join<R, A, B> {
-    ghost use Rattle.joins.specs.Join.{join_means, join_time, join_makes};
+    ghost use Rattle.joins.specs.Join.{join_means, join_time, JoinOrder, join_makes};
     ghost use Rattle.joins.specs.Ordered.{join_in_order};
 
-    ghost means = { join_means };
+    ghost means = { join_means A.QDevice B.QDevice };
 
-    ghost timing = { join_time };
+    ghost timing = { join_time R.Rule A.QDevice B.QDevice };
 
-    ghost makes = { join_makes };
+    ghost ordered = { JoinOrder R.Rule A.QDevice B.QDevice };
+
+    ghost makes = { join_makes R.Rule A.QDevice B.QDevice };
 
     ghost in_order = { join_in_order A.in_order B.in_order };
 

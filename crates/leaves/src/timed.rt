@@ -54,9 +54,11 @@ impl QDevice for Timed {
 
     ghost timing = { timed_timing };
 
+    ghost ordered = { λ _. Unit {0} };
+
     ghost makes = { timed_makes };
 
-    ghost in_order = { timed_in_order };
+    ghost in_order = { λ d _. timed_in_order d };
 
     fn phase(&self) -> Phase {
         self.end.phase // of its own channel

@@ -71,9 +71,11 @@ impl QDevice for Work {
 
     ghost timing = { work_timing };
 
+    ghost ordered = { λ _. Unit {0} };
+
     ghost makes = { work_makes };
 
-    ghost in_order = { work_in_order };
+    ghost in_order = { λ d _. work_in_order d };
 
     fn phase(&self) -> Phase {
         self.end.phase // of its own channel

@@ -33,7 +33,8 @@ pub trait Worker: QDevice {
     fn job_for(&mut self, tag: u32, n: u16) -> Result<(), JobRefusal>
         ensures exact { takes tag n self.old self.new result }
         ensures order { Self.QDevice.means self.new ≡ Self.QDevice.means self.old }
-        ensures pace { Self.QDevice.timing self.new ≡ Self.QDevice.timing self.old };
+        ensures pace { Self.QDevice.timing self.new ≡ Self.QDevice.timing self.old }
+        ensures kept { Self.QDevice.ordered self.old → Self.QDevice.ordered self.new };
 }
 
 impl Worker for Timed {

@@ -117,12 +117,12 @@ one_fewer tick false v w t u n c h o i l = elim c [ ]
 one_fewer other true v w t u n c h o i l = grind arith
 one_fewer other false v w t u n c h o i l = grind arith
 
-module _ {S C : Type 0} (piled : S → Type 0) (view : S → View) (timing : S → Timing) (kind : C → Kind)
+module _ {S C : Type 0} (ordered : S → Type 0) (view : S → View) (timing : S → Timing) (kind : C → Kind)
     (makes : C → Bool → S → S → Type 0) where
   abbrev RunOf : S → List (Moment S C) → Type 0
-  RunOf = Play piled view timing kind makes
+  RunOf = Play ordered view timing kind makes
 
-  fit_last : (x : S) (run : List (Moment S C)) → Fit piled view timing x → RunOf x run → Fit piled view timing (last x run)
+  fit_last : (x : S) (run : List (Moment S C)) → Fit ordered view timing x → RunOf x run → Fit ordered view timing (last x run)
   fit_last x [] f p = f
   fit_last x (k ∷ ks) f p = fit_last k.state ks p.0.linked.fit p.1
 
@@ -159,7 +159,7 @@ module _ {S C : Type 0} (piled : S → Type 0) (view : S → View) (timing : S �
       (rest.0, rest.1 ∙ or_assoc seen (leftmost (view k.state).leaves) _)
 
   -- steps in a phase that stays open are fewer than the steps left where it began
-  count_run : (y : S) (during after : List (Moment S C)) → Fit piled view timing y → RunOf y (during ++ after)
+  count_run : (y : S) (during after : List (Moment S C)) → Fit ordered view timing y → RunOf y (during ++ after)
       → Opened (view y).at → AllIn view (number (view y).at) during → steps kind during < (timing y).left
   count_run y [] after f p o a = let h : 1 ≤ (timing y).left = f.in_time.some_left o in omega arith
   count_run y (k ∷ ks) after f p o a =
@@ -196,7 +196,7 @@ module _ {S C : Type 0} (piled : S → Type 0) (view : S → View) (timing : S �
   stop_asked tick b v w e i c = let z : ⊥ = grind arith in elim z [ ]
   stop_asked other b v w e i c = let z : ⊥ = grind arith in elim z [ ]
 
-  pub every_run : Every piled view timing kind makes
+  pub every_run : Every ordered view timing kind makes
   every_run x run f p = record {
     shown = λ before after e.
         (fit_last x before f (play_front x before after (subst (RunOf x) e p))).truly;

@@ -51,18 +51,18 @@ one_step back = 0
 one_step tick = 1
 one_step other = 0
 
--- a pile: what it shows is so, and it is in time
-pub record Fit {S : Type 0} (piled : S → Type 0) (view : S → View) (timing : S → Timing) (x : S) : Type 0 where
-  pub own : piled x
+-- a pile in order: what it shows is so, and it is in time
+pub record Fit {S : Type 0} (ordered : S → Type 0) (view : S → View) (timing : S → Timing) (x : S) : Type 0 where
+  pub own : ordered x
   pub truly : Truly (view x)
   pub in_time : InTime (view x).at (timing x)
 
 -- a call does what its kind does, and leaves the pile in order
-pub record Linked {S : Type 0} (piled : S → Type 0) (view : S → View) (timing : S → Timing) (k : Kind) (accepted : Bool)
+pub record Linked {S : Type 0} (ordered : S → Type 0) (view : S → View) (timing : S → Timing) (k : Kind) (accepted : Bool)
     (x y : S) : Type 0 where
   pub called : Called k accepted (view x) (view y)
   pub timed : Timed k accepted (view x).at (view y).at (timing x) (timing y)
-  pub fit : Fit piled view timing y
+  pub fit : Fit ordered view timing y
 
 module _ {S C : Type 0} where
   -- the pile after a run
@@ -89,17 +89,17 @@ module _ {S C : Type 0} where
   steps kind (k ∷ ks) = one_step (kind k.call) + steps kind ks
 
   -- one call: what its contract says of the whole value, and what is seen from above
-  pub record Link (piled : S → Type 0) (view : S → View) (timing : S → Timing) (kind : C → Kind)
+  pub record Link (ordered : S → Type 0) (view : S → View) (timing : S → Timing) (kind : C → Kind)
       (makes : C → Bool → S → S → Type 0) (x : S) (k : Moment S C) : Type 0 where
     pub made : makes k.call k.accepted x k.state
-    pub linked : Linked piled view timing (kind k.call) k.accepted x k.state
+    pub linked : Linked ordered view timing (kind k.call) k.accepted x k.state
 
   -- a run of the pile's own calls, nothing between them
-  abbrev pub Play : (piled : S → Type 0) (view : S → View) (timing : S → Timing) (kind : C → Kind)
+  abbrev pub Play : (ordered : S → Type 0) (view : S → View) (timing : S → Timing) (kind : C → Kind)
       (makes : C → Bool → S → S → Type 0) → S → List (Moment S C) → Type 0
-  Play piled view timing kind makes x [] = Unit {0}
-  Play piled view timing kind makes x (k ∷ ks) =
-      Link piled view timing kind makes x k × Play piled view timing kind makes k.state ks
+  Play ordered view timing kind makes x [] = Unit {0}
+  Play ordered view timing kind makes x (k ∷ ks) =
+      Link ordered view timing kind makes x k × Play ordered view timing kind makes k.state ks
 
   -- the promise, of one run from x
   pub record Kept (view : S → View) (timing : S → Timing) (kind : C → Kind) (x : S) (run : List (Moment S C)) : Type 0 where
@@ -120,21 +120,21 @@ module _ {S C : Type 0} where
         → steps kind during < (timing x).bound
 
   -- the promise, of every run from every pile in order
-  abbrev pub Every : (piled : S → Type 0) (view : S → View) (timing : S → Timing) (kind : C → Kind)
+  abbrev pub Every : (ordered : S → Type 0) (view : S → View) (timing : S → Timing) (kind : C → Kind)
       (makes : C → Bool → S → S → Type 0) → Type 0
-  Every piled view timing kind makes =
-      (x : S) (run : List (Moment S C)) → Fit piled view timing x → Play piled view timing kind makes x run
+  Every ordered view timing kind makes =
+      (x : S) (run : List (Moment S C)) → Fit ordered view timing x → Play ordered view timing kind makes x run
       → Kept view timing kind x run
 
   -- these calls were played from the reset pile, to this end, and the promise was kept
-  pub record Promised (piled : S → Type 0) (view : S → View) (timing : S → Timing) (kind : C → Kind)
+  pub record Promised (ordered : S → Type 0) (view : S → View) (timing : S → Timing) (kind : C → Kind)
       (makes : C → Bool → S → S → Type 0) (resets : S → S → Type 0) (calls : List C) (start end : S) : Type 0 where
     pub begin : S
     pub run : List (Moment S C)
     pub reset : resets start begin
     pub begun : Begun (view begin)
-    pub fit : Fit piled view timing begin
-    pub play : Play piled view timing kind makes begin run
+    pub fit : Fit ordered view timing begin
+    pub play : Play ordered view timing kind makes begin run
     pub these : calls_of run ≡ calls
     pub ends : last begin run ≡ end
     pub kept : Kept view timing kind begin run

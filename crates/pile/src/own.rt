@@ -17,8 +17,9 @@ pub enum QCall {
 pub fn own_call<D: QDevice>(device: &mut D, call: QCall) -> Result<(), Refusal>
     ensures answer { result ≡ q_answer call (D.means device.old).phase }
     ensures exact { q_makes D.means D.makes call (is_ok result) device.old device.new }
-    ensures called { Called (q_kind call) (is_ok result) (q_view (D.means device.old)) (q_view (D.means device.new)) }
-    ensures timed { Timed (q_kind call) (is_ok result) (q_view (D.means device.old)).at (q_view (D.means device.new)).at (D.timing device.old) (D.timing device.new) }
+    ensures called { D.ordered device.old → Called (q_kind call) (is_ok result) (q_view (D.means device.old)) (q_view (D.means device.new)) }
+    ensures timed { D.ordered device.old → Timed (q_kind call) (is_ok result) (q_view (D.means device.old)).at (q_view (D.means device.new)).at (D.timing device.old) (D.timing device.new) }
+    ensures kept { D.ordered device.old → D.ordered device.new }
 {
     match call {
         QCall::Lower => device.lower(),

@@ -18,7 +18,10 @@ pub trait Pile {
 
     ghost timing: { Self → Timing };
 
-    // what this value has to be to count as a pile
+    // what a value has to be for its calls to keep the promise
+    ghost ordered: { Self → Type 0 };
+
+    // what a value has to be for a reset to make it such a one
     ghost piled: { Self → Type 0 };
 
     ghost kind: { Self.Call → Kind };
@@ -35,14 +38,14 @@ pub trait Pile {
     fn restart(&mut self)
         ensures exact { resets self.old self.new }
         ensures begun { piled self.old → Begun (view self.new) }
-        ensures kept { piled self.old → piled self.new };
+        ensures kept { piled self.old → ordered self.new };
 
     // Makes one of the pile's own calls.
     fn make(&mut self, call: Self::Call) -> Result<(), Self::Refusal>
         ensures answer { answers call self.old result }
         ensures exact { makes call (is_ok result) self.old self.new }
-        ensures linked { piled self.old → Linked piled view timing (kind call) (is_ok result) self.old self.new };
+        ensures linked { ordered self.old → Linked ordered view timing (kind call) (is_ok result) self.old self.new };
 
-    // what a pile shows is so, and a change that is under way has steps left
-    ghost fits: { (p : Self) → piled p → Fit piled view timing p };
+    // what a pile in order shows is so, and a change that is under way has steps left
+    ghost fits: { (p : Self) → ordered p → Fit ordered view timing p };
 }

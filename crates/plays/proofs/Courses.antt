@@ -87,18 +87,18 @@ end_is e p d h k = rw (← h, ← k)
 abbrev pub told_fields : Both → Phase × Option ℕ
 told_fields b = (b.end.phase, b.end.denier)
 
-module _ {R : Type 0} {r : rule.Ghosts R} where
-  abbrev pub fields : Join R Timed Timed r timed timed → Both
+module _ {R : Type 0} (r : rule.Ghosts R) where
+  abbrev pub fields : Join R Timed Timed → Both
   fields j = record { end = j.end; first = j.first; second = j.second }
 
-  made_so : (i j : Join R Timed Timed r timed timed) (x y : Timed) → j.first ≡ x → j.second ≡ y
+  made_so : (i j : Join R Timed Timed) (x y : Timed) → j.first ≡ x → j.second ≡ y
       → j.end.denier ≡ denier_after i.end.phase i.end.denier (timed_means j.first) (timed_means j.second)
       → j.end.phase ≡ phase_after i.end.phase i.end.denier (timed_means j.first) (timed_means j.second)
       → fields j ≡ settled i.end x y
   made_so i j x y ex ey d q =
       rw (← ex, ← ey) (same (fields j) (settled i.end j.first j.second) (end_is j.end _ _ q d) refl refl)
 
-  pub join_one : (c : Call) (i j : Join R Timed Timed r timed timed) → join_makes c i j → fields j ≡ join_next r.KIND c (fields i)
+  pub join_one : (c : Call) (i j : Join R Timed Timed) → join_makes r timed timed c i j → fields j ≡ join_next r.KIND c (fields i)
   join_one Lower i j h = same (fields j) (join_next r.KIND Lower (fields i)) h.lowered h.apart.same_first h.apart.same_second
   join_one Raise i j h = same (fields j) (join_next r.KIND Raise (fields i)) h.raised h.apart.same_first h.apart.same_second
   join_one Step i j h =
@@ -106,14 +106,14 @@ module _ {R : Type 0} {r : rule.Ghosts R} where
       (h.second_stepped ∙ ap (after Step) (drive_one _ _ _ h.second_driven)) h.notes h.decides
   join_one Restart i j h = same (fields j) (join_next r.KIND Restart (fields i)) h.rests h.first_reset h.second_reset
 
-  pub join_tells : (x y : Timed) (j : Join R Timed Timed r timed timed) → Made x y j → (calls : List Call)
-      → Tells join_makes told_join j calls
+  pub join_tells : (x y : Timed) (j : Join R Timed Timed) → Made timed timed x y j → (calls : List Call)
+      → Tells (join_makes r timed timed) told_join j calls
       (course (join_next r.KIND) told_fields (record { end = at_rest; first = after Restart x; second = after Restart y }) calls)
   join_tells x y j h calls =
       let b : Both = record { end = at_rest; first = after Restart x; second = after Restart y } in
-      subst (λ b. Tells join_makes told_join j calls (course (join_next r.KIND) told_fields b calls))
+      subst (λ b. Tells (join_makes r timed timed) told_join j calls (course (join_next r.KIND) told_fields b calls))
       (same (fields j) b h.rests h.first_reset h.second_reset)
-      (tells join_makes fields (join_next r.KIND) told_fields join_one j calls)
+      (tells (join_makes r timed timed) fields (join_next r.KIND) told_fields join_one j calls)
 
 -- a converter over a timed leaf, by its fields
 pub record Fields : Type 0 where
@@ -123,7 +123,7 @@ pub record Fields : Type 0 where
   pub asked : ℕ
   pub denier : Option ℕ
 
-abbrev pub held : Converter Timed timed → Fields
+abbrev pub held : Converter Timed → Fields
 held c = record { device = c.device; phase = c.phase; state = c.state; asked = c.asked; denier = c.denier }
 
 -- a converter over this device, once it has noted and decided
@@ -145,13 +145,13 @@ converter_next ask.Step b = answers b
 equal : (b c : Fields) → b.device ≡ c.device → b.phase ≡ c.phase → b.state ≡ c.state → b.asked ≡ c.asked → b.denier ≡ c.denier → b ≡ c
 equal b c x q s a d = rw (x, q, s, a, d)
 
-answers_so : (b c : Converter Timed timed) (x : Timed) → c.device ≡ x
+answers_so : (b c : Converter Timed) (x : Timed) → c.device ≡ x
     → c.denier ≡ task_note (task_of b.phase (mode_of b.state) (mode_of b.asked)) b.denier (heard c.device.end.phase c.device.end.denier)
     → c.phase ≡ next_phase b.phase (task_of b.phase (mode_of b.state) (mode_of b.asked)) (is_some c.denier) c.device.end.phase
     → c.state ≡ next_state b.phase c.phase b.state b.asked → c.asked ≡ b.asked → held c ≡ answers (held b) x
 answers_so b c x e d q s a = rw (← e) (rw (← d, ← q, ← s, ← a) refl)
 
-pub converter_one : (c : PCall) (x y : Converter Timed timed) → ConverterGoes c x y → held y ≡ converter_next c (held x)
+pub converter_one : (c : PCall) (x y : Converter Timed) → ConverterGoes c x y → held y ≡ converter_next c (held x)
 converter_one (ask.Ask n) x y h =
     let m = h.1.1 in
     equal (held y) (converter_next (ask.Ask n) (held x)) m.same_device m.phase_is m.same_state m.asked_is m.denier_is
@@ -165,7 +165,7 @@ converter_one ask.Step x y h =
 abbrev pub told_held : Fields → PPhase × ℕ × Option ℕ
 told_held b = (b.phase, b.state, b.denier)
 
-pub converter_tells : (x : Timed) (c : Converter Timed timed) → StartMade x c → (calls : List PCall)
+pub converter_tells : (x : Timed) (c : Converter Timed) → StartMade timed x c → (calls : List PCall)
     → Tells ConverterGoes told_converter c calls
     (course converter_next told_held (record { device = after Restart x; phase = p.Stable; state = 0; asked = 0; denier = None }) calls)
 converter_tells x c h calls =

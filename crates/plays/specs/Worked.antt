@@ -14,7 +14,6 @@ use Rattle.leaves.specs.Told.{timed}
 use Rattle.leaves.specs.Work.{work_makes}
 use Rattle.leaves.specs.Work as work
 use Rattle.leaves.specs.Jobs.{after_add}
-use Rattle.joins.specs.declared.rule.Rule as rule
 use Rattle.joins.specs.declared.rule.Parallel.{Parallel}
 use Rattle.joins.specs.declared.rule.Serial.{Serial}
 use Rattle.joins.specs.declared.join.Join.{Join}
@@ -63,23 +62,23 @@ abbrev pub told_work : Work → Phase × ℕ
 told_work v = (v.end.phase, v.jobs)
 
 -- phase and denier of a join of two timed leaves
-abbrev pub told_join : {R : Type 0} {r : rule.Ghosts R} → Join R Timed Timed r timed timed → Phase × Option ℕ
+abbrev pub told_join : {R : Type 0} → Join R Timed Timed → Phase × Option ℕ
 told_join j = (j.end.phase, j.end.denier)
 
 -- however a distributor of these leaves was made, and however these calls go, this is told
 abbrev pub DistributorTells : Timed → Timed → List Call → List (Phase × Option ℕ) → Type 0
 DistributorTells x y calls seen =
-    (j : Join Parallel Timed Timed parallel timed timed) → Made x y j → Tells join_makes told_join j calls seen
+    (j : Join Parallel Timed Timed) → Made timed timed x y j → Tells (join_makes parallel timed timed) told_join j calls seen
 
 abbrev pub SequencerTells : Timed → Timed → List Call → List (Phase × Option ℕ) → Type 0
 SequencerTells x y calls seen =
-    (j : Join Serial Timed Timed serial timed timed) → Made x y j → Tells join_makes told_join j calls seen
+    (j : Join Serial Timed Timed) → Made timed timed x y j → Tells (join_makes serial timed timed) told_join j calls seen
 
-abbrev pub ConverterGoes : PCall → Converter Timed timed → Converter Timed timed → Type 0
-ConverterGoes c x y = (b : Bool) × p_makes c b x y
+abbrev pub ConverterGoes : PCall → Converter Timed → Converter Timed → Type 0
+ConverterGoes c x y = (b : Bool) × p_makes timed c b x y
 
 -- phase, state and denier
-abbrev pub told_converter : Converter Timed timed → PPhase × ℕ × Option ℕ
+abbrev pub told_converter : Converter Timed → PPhase × ℕ × Option ℕ
 told_converter c = (c.phase, c.state, c.denier)
 
 pub record WorkedPlays : Type 0 where
@@ -120,7 +119,7 @@ pub record WorkedPlays : Type 0 where
       ∷ (Request, None) ∷ (Request, None) ∷ (Request, Some 1) ∷ (Denied, Some 1) ∷ [])
   -- ask 8 is accepted at step 1; after drop and a step, ask 0 is denied at step 2 and the state is still 8.
   -- False where the state changes with the ask, or where a converter answers while its device is at Denied
-  pub denied_ask : (h i : 1 ≤ 1) (c : Converter Timed timed) → StartMade (leaf 1 1 1 1 h i) c
+  pub denied_ask : (h i : 1 ≤ 1) (c : Converter Timed) → StartMade timed (leaf 1 1 1 1 h i) c
       → Tells ConverterGoes told_converter c
       (ask.Ask 8 ∷ ask.Step ∷ ask.Drop ∷ ask.Step ∷ ask.Ask 0 ∷ ask.Step ∷ ask.Step ∷ [])
       ((p.Request, 0, None) ∷ (p.Accept, 8, None) ∷ (p.Complete, 8, None) ∷ (p.Stable, 8, None)

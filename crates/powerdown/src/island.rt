@@ -4,7 +4,7 @@ ghost use Rattle.std.specs.Prelude.{◌≡◌, ◌≤◌, IfOk, OnOk};
 ghost use Rattle.converter.specs.Converter.{ask_answer, drop_answer};
 ghost use Rattle.watch.specs.Phases.{p_ending_of};
 ghost use Rattle.powerdown.specs.Rounds.{Seen, Asked, Unless};
-ghost use Rattle.powerdown.specs.Design.{island_time, island_changing, island_left, island_stepped};
+ghost use Rattle.powerdown.specs.Design.{IslandOrder, island_time, island_changing, island_left, island_stepped};
 ghost use Rattle.powerdown.specs.Laws.{island_pending};
 
 use crate::print::{CPU, Change, DMA, MEM, print_edge};
@@ -29,6 +29,7 @@ const RUN: u8 = 8;
 #[derive(Drop)]
 pub struct Island {
     power: Converter<Sequencer<Distributor<Timed, Work>, Timed>>,
+    ghost ordered: { ∥ IslandOrder power ∥₁ },
     ghost bound: { (island_time power).bound ≡ 32 },
 }
 
@@ -61,6 +62,8 @@ fn print_edges(rt: &impl Print, step: u32, old: Phases, new: Phases) -> io::Resu
 }
 
 impl Watched for Island {
+    ghost ready = { λ _. Unit {0} };
+
     ghost changing = { λ d. island_changing d.power };
 
     ghost left = { λ d. island_left d.power };
@@ -82,7 +85,7 @@ impl Watched for Island {
         print_edges(rt, number, old, self.phases())
     }
 
-    ghost pending = { λ d. island_pending d.power d.bound };
+    ghost pending = { λ d _. island_pending d.power d.ordered d.bound };
 }
 
 impl Island {

@@ -3,7 +3,7 @@ ghost use Rattle.std.specs.Prelude.{◌≡◌, ◌≤◌, IfOk, OnOk};
 ghost use Rattle.channel.specs.Calls.{lower_answer, raise_answer};
 ghost use Rattle.watch.specs.Phases.{ending_of};
 ghost use Rattle.powerdown.specs.Rounds.{Seen, Asked, Unless};
-ghost use Rattle.powerdown.specs.Design.{pair_time, pair_changing, pair_left, pair_stepped};
+ghost use Rattle.powerdown.specs.Design.{PairOrder, pair_time, pair_changing, pair_left, pair_stepped};
 ghost use Rattle.powerdown.specs.Laws.{pair_pending};
 
 use crate::print::{CPU, Change, DMA, print_edge};
@@ -23,6 +23,7 @@ use watch::tally::Tally;
 #[derive(Drop)]
 pub struct Pair {
     top: Distributor<Timed, Work>,
+    ghost ordered: { ∥ PairOrder top ∥₁ },
     ghost bound: { (pair_time top).bound ≡ 6 },
 }
 
@@ -50,6 +51,8 @@ fn print_edges(rt: &impl Print, step: u32, old: Phases, new: Phases) -> io::Resu
 }
 
 impl Watched for Pair {
+    ghost ready = { λ _. Unit {0} };
+
     ghost changing = { λ d. pair_changing d.top };
 
     ghost left = { λ d. pair_left d.top };
@@ -71,7 +74,7 @@ impl Watched for Pair {
         print_edges(rt, number, old, self.phases())
     }
 
-    ghost pending = { λ d. pair_pending d.top d.bound };
+    ghost pending = { λ d _. pair_pending d.top d.ordered d.bound };
 }
 
 impl Pair {

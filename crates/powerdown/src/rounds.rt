@@ -10,7 +10,8 @@ use watch::tally::{Ending, Tally};
 
 // Sees a change to its end and prints how long it took.
 pub fn see_through<W: Watched>(rt: &impl Print, design: &mut W, tally: &mut Tally) -> io::Result<()>
-    ensures settled { OnOk result (W.changing design.new ≡ false) }
+    ensures settled { W.ready design.old → OnOk result (W.changing design.new ≡ false) }
+    ensures kept { W.ready design.old → W.ready design.new }
     ensures seen { OnOk result (Seen W.BOUND tally.old tally.new) }
 {
     let taken = settle(rt, design, tally)?;

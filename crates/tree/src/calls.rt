@@ -38,9 +38,11 @@ impl QDevice for Tree<'_> {
 
     ghost timing = { tree_timing };
 
+    ghost ordered = { λ _. Unit {0} };
+
     ghost makes = { TreeMade };
 
-    ghost in_order = { tree_in_order };
+    ghost in_order = { λ t _. tree_in_order t };
 
     fn phase(&self) -> Phase {
         self.top().map_or(self.own, |top| top.phase())

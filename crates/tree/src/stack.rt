@@ -28,6 +28,8 @@ impl Pile for Tree<'_> {
 
     ghost timing = { tree_timing };
 
+    ghost ordered = { TopJoins };
+
     ghost piled = { TopJoins };
 
     ghost kind = { tree_kind };

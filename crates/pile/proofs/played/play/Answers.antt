@@ -15,7 +15,7 @@ loop-call-preserved g c = λ f.
     let more : take (i + 1) c.args.calls.now ≡ take i c.args.calls.now ++ (item ∷ []) =
     take_more c.args.calls.now i item c.loop-call-test.true
     ∙ ap (λ x. take i c.args.calls.now ++ (x ∷ [])) (sym c.call-item.is) in
-    subst (λ cs. Ran g.P.Pile.piled g.P.Pile.view g.P.Pile.timing g.P.Pile.kind g.P.Pile.makes cs
+    subst (λ cs. Ran g.P.Pile.ordered g.P.Pile.view g.P.Pile.timing g.P.Pile.kind g.P.Pile.makes cs
     c.restart.new.self c.make.new.self) (sym more)
     (ran_more _ _ _ _ _ _ _ _ _ item _ r c.make.ensures.exact (c.make.ensures.linked r.fit.own))
 

@@ -5,6 +5,6 @@ use Rattle.pile.proofs.played.play.Given as goal
 
 abbrev pub invariant-loop-call : goal.invariant-loop-call
 invariant-loop-call g l =
-    Fit g.P.Pile.piled g.P.Pile.view g.P.Pile.timing l.initial.pile
-    → Ran g.P.Pile.piled g.P.Pile.view g.P.Pile.timing g.P.Pile.kind g.P.Pile.makes
+    Fit g.P.Pile.ordered g.P.Pile.view g.P.Pile.timing l.initial.pile
+    → Ran g.P.Pile.ordered g.P.Pile.view g.P.Pile.timing g.P.Pile.kind g.P.Pile.makes
     (take l.call-index l.calls) l.initial.pile l.pile

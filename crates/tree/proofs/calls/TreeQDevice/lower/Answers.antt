@@ -10,4 +10,4 @@ returns-in_err-lower-clause-exact c =
     lower_stays c.args.self.now e
 
 pub returns-clause-order : goal.returns-clause-order
-returns-clause-order c = lower_order c.args.self.now c.drive_top.new.self c.drive_top.ensures.nested
+returns-clause-order c = λ _. lower_order c.args.self.now c.drive_top.new.self c.drive_top.ensures.nested

@@ -26,4 +26,4 @@ invariant_of-self-2 c =
 pub returns : goal.returns
 returns c =
     let m = tree_made call.Restart c.args.self.now _ refl c.reset_lines.ensures refl refl in
-    record { exact = m; order = (reset_order _ _ m).0; pace = (reset_order _ _ m).1 }
+    record { exact = m; order = (reset_order _ _ m).0; pace = (reset_order _ _ m).1; kept = tt }

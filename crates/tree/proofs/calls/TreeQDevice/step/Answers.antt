@@ -30,4 +30,4 @@ invariant_of-self-2 c =
 pub returns : goal.returns
 returns c =
     let m = tree_made call.Step c.args.self.now _ refl c.step_lines.ensures c.own_next-self.ensures refl in
-    record { exact = m; order = (step_order _ _ m).0; pace = (step_order _ _ m).1 }
+    record { exact = m; order = λ _. (step_order _ _ m).0; pace = λ _. (step_order _ _ m).1; kept = λ _. tt }

@@ -10,7 +10,7 @@ returns-in-Own-clause-linked c =
     let o = c.own_call.ensures in
     let e : is_ok c.map_err.result ≡ is_ok c.own_call.result = grind (arith, common_steps) in
     λ f. own_linked_as c.args.call c.in-Own.call _ _ t u c.in-Own.is e
-    (own_linked c.in-Own.call (is_ok c.own_call.result) t u o.exact o.called o.timed f)
+    (own_linked c.in-Own.call (is_ok c.own_call.result) t u o.exact (o.called tt) (o.timed tt) f)
 
 pub returns-in-Job-clause-linked : goal.returns-in-Job-clause-linked
 returns-in-Job-clause-linked c =
